@@ -1,0 +1,6 @@
+pub mod Choice
+pub mod Search
+pub mod Sum
+pub mod Divisor
+pub mod Lists
+pub mod Digits

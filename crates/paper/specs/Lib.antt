@@ -1,0 +1,10 @@
+pub mod Words
+pub mod Sa1
+pub mod Rotation
+pub mod Schedule
+pub mod Outcome
+pub mod Bytes
+pub mod Builder
+pub mod Rules
+pub mod Statements
+pub mod Answers

@@ -1,0 +1,83 @@
+-- Document 01, "Words": duty, block, unit, slice, row, engine, run. (004 counts units, engines and duties from 1. We count from 0.)
+use Prim.Native.Nat.{ℕ, _+_, _*_, _/_, _%_}
+use mathlib.Core.Bool.{Bool, true, false, _&&_}
+use mathlib.Core.List.{List, [], _∷_, map}
+use lib.Dec.{leb, ltb, eqb}
+use lib.ListN.{getD}
+use Rattle.laws.specs.Choice.{pick}
+use Rattle.laws.specs.Divisor.{gcdOf}
+use Rattle.paper.specs.declared.Row.{Row}
+use Rattle.paper.specs.declared.Engine.{Engine}
+use Rattle.paper.specs.declared.Duty.{Duty}
+use Rattle.paper.specs.declared.Run.{Run}
+use Rattle.paper.specs.declared.Held.{Held}
+use Rattle.paper.specs.declared.Held.the-variants.{Idle, By}
+
+-- the row and the engine of a number
+abbrev pub row : ℕ → Row
+row n = record { 0 = n }
+
+abbrev pub engine : ℕ → Engine
+engine n = record { 0 = n }
+
+-- "A duty has a service C and a period D, in ticks."
+abbrev pub duty : ℕ → ℕ → Duty
+duty c d = record { service = c; period = d }
+
+-- "Its job q has the ticks from q·D up to, not including, (q+1)·D": the first of them; there are D
+abbrev pub jobStart : Duty → ℕ → ℕ
+jobStart x q = q * x .period
+
+-- "The block length T is the greatest common divisor of all periods."
+unfoldable pub blockLengthOf : List Duty → ℕ
+blockLengthOf ds = gcdOf (map (λ x. x .period) ds)
+
+-- "The slice N of a duty is T·C/D."
+unfoldable pub slice : ℕ → Duty → ℕ
+slice t x = t * x .service / x .period
+
+-- "It must be whole, that is, D/T divides C": D divides T·C
+unfoldable pub whole : ℕ → Duty → Bool
+whole t x = eqb (t * x .service % x .period) 0
+
+-- "A run is a stretch of units on one row given to one duty": row, duty, first unit, length
+abbrev pub run : ℕ → ℕ → ℕ → ℕ → Run
+run r i u n = record { row = row r; duty = i; first = u; length = n }
+
+-- the unit after a run's last
+abbrev pub stop : Run → ℕ
+stop x = x .first + x .length
+
+-- the run is on row r and has the unit u
+unfoldable pub covers : Run → Row → ℕ → Bool
+covers x r u = eqb (x .row .0) (r .0) && leb (x .first) u && ltb u (stop x)
+
+-- a plan: the block length T, the number of engines (and of rows), the duties and the runs
+pub record Table : Type 0 where
+  pub ticks : ℕ
+  pub engines : ℕ
+  pub duties : List Duty
+  pub runs : List Run
+
+-- duty i and run k of lists of them
+abbrev pub dutyAt : List Duty → ℕ → Duty
+dutyAt ds i = getD ds i (duty 0 0)
+
+abbrev pub runAt : List Run → ℕ → Run
+runAt xs k = getD xs k (run 0 0 0 0)
+
+-- who holds unit u of row r: "finding the run that holds a unit stops at the first that does"
+unfoldable pub heldIn : List Run → Row → ℕ → Held
+heldIn [] r u = Idle
+heldIn (x ∷ xs) r u = pick (covers x r u) (By (x .duty)) (heldIn xs r u)
+
+-- one duty holds both
+unfoldable pub same : Held → Held → Bool
+same Idle h = false
+same (By i) Idle = false
+same (By i) (By j) = eqb i j
+
+-- some duty holds it
+abbrev pub busy : Held → Bool
+busy Idle = false
+busy (By i) = true
