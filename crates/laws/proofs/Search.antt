@@ -1,0 +1,120 @@
+-- The laws of a search. A loop that looks for the least index keeps `Seeking`: everything passed failed the test. At the
+-- first index that passes it stands at `first`, and at the end of the range too.
+-- Assumes nothing.
+use Prim.Native.Nat.{ℕ, zero, suc, _+_, _≤_, _<_}
+use mathlib.Core.Path.{_≡_, refl, sym, ap, _∙_}
+use mathlib.Core.Bool.{Bool, true, false}
+use native.Mathlib.Nat.{le-of-suc-le-suc, not-suc-le-zero, le-antisymm}
+use native.Mathlib.Numerals.{add-one}
+use native.Mathlib.Omega.{arith}
+use lib.Dec.{ltb}
+use borrow.Author.Tests.{ltb-true, ltb-false, lt-ltb, le-ltb}
+use borrow.Author.Count.{below-more}
+use mathlib.Core.Logic.{⊎-elim}
+use Rattle.laws.specs.Search.{first, any}
+
+-- no index below n passes
+abbrev pub Clear : (ℕ → Bool) → ℕ → Type 0
+Clear test n = (k : ℕ) → k < n → test k ≡ false
+
+-- one step of the search, by what the test says of 0
+first-yes : (test : ℕ → Bool) (n : ℕ) → test 0 ≡ true → first test (suc n) ≡ 0
+unfolding first
+first-yes test n h = rw (h, first)
+
+first-no : (test : ℕ → Bool) (n : ℕ) → test 0 ≡ false → first test (suc n) ≡ suc (first (λ k. test (suc k)) n)
+unfolding first
+first-no test n h = rw (h, first)
+
+-- a Bool with its equation
+pub by-cases : {P : Type 0} (b : Bool) → (b ≡ true → P) → (b ≡ false → P) → P
+by-cases true f g = f refl
+by-cases false f g = g refl
+
+-- an index that passes and has only failures before it is the one found
+pub first-is : (test : ℕ → Bool) (n i : ℕ) → i < n → Clear test i → test i ≡ true → first test n ≡ i
+first-is test zero i h c p = absurd (not-suc-le-zero h)
+first-is test (suc n) zero h c p = first-yes test n p
+first-is test (suc n) (suc i) h c p =
+    first-no test n (c 0 (omega arith)) ∙ ap suc (first-is (λ k. test (suc k)) n i (omega arith) (λ k l. c (suc k) (omega arith)) p)
+
+-- with only failures the search comes to the end
+pub first-none : (test : ℕ → Bool) (n : ℕ) → Clear test n → first test n ≡ n
+unfolding first
+first-none test zero c = refl
+first-none test (suc n) c = first-no test n (c 0 (omega arith)) ∙ ap suc (first-none (λ k. test (suc k)) n (λ k l. c (suc k) (omega arith)))
+
+-- the search never passes the end
+pub first-le : (test : ℕ → Bool) (n : ℕ) → first test n ≤ n
+unfolding first
+first-le test zero = omega arith
+first-le test (suc n) =
+    by-cases (test 0) (λ h. rw (first-yes test n h) (omega arith))
+    (λ h. rw (first-no test n h) (omega (arith, first-le (λ k. test (suc k)) n)))
+
+-- what is before the index found fails
+pub first-clear : (test : ℕ → Bool) (n : ℕ) → Clear test (first test n)
+unfolding first
+first-clear test zero k h = absurd (not-suc-le-zero h)
+first-clear test (suc n) k h =
+    by-cases (test 0) (λ p. absurd (not-suc-le-zero (rw (first-yes test n p) at h)))
+    (λ p. step p k (first-clear (λ j. test (suc j)) n) (rw (first-no test n p) at h))
+  where
+    step : test 0 ≡ false → (k : ℕ) → Clear (λ j. test (suc j)) (first (λ j. test (suc j)) n) → k < suc (first (λ j. test (suc j)) n) → test k ≡ false
+    step p zero c l = p
+    step p (suc j) c l = c j (le-of-suc-le-suc l)
+
+-- the index found passes, where it is before the end
+pub first-holds : (test : ℕ → Bool) (n : ℕ) → first test n < n → test (first test n) ≡ true
+unfolding first
+first-holds test zero h = absurd (not-suc-le-zero h)
+first-holds test (suc n) h =
+    by-cases (test 0) (λ p. rw (first-yes test n p) p)
+    (λ p. rw (first-no test n p) (first-holds (λ k. test (suc k)) n (le-of-suc-le-suc (rw (first-no test n p) at h))))
+
+-- the search of one test is that of another that says the same
+pub first-ext : (f g : ℕ → Bool) (n : ℕ) → ((k : ℕ) → k < n → f k ≡ g k) → first f n ≡ first g n
+unfolding first
+first-ext f g zero e = refl
+first-ext f g (suc n) e =
+    by-cases (g 0) (λ p. first-yes f n (e 0 (omega arith) ∙ p) ∙ sym (first-yes g n p))
+    (λ p. first-no f n (e 0 (omega arith) ∙ p)
+    ∙ ap suc (first-ext (λ k. f (suc k)) (λ k. g (suc k)) n (λ k l. e (suc k) (omega arith)))
+    ∙ sym (first-no g n p))
+
+-- a search that does not stop before the end has passed only failures, and the converse
+pub none-clear : (test : ℕ → Bool) (n : ℕ) → ltb (first test n) n ≡ false → Clear test n
+none-clear test n h k l = first-clear test n k (omega (arith, ltb-false (first test n) n h))
+
+pub clear-none : (test : ℕ → Bool) (n : ℕ) → Clear test n → ltb (first test n) n ≡ false
+clear-none test n c = le-ltb (first test n) n (omega (arith, first-none test n c))
+
+-- the same for `any`: one that passes is enough
+pub any-some : (test : ℕ → Bool) (n k : ℕ) → k < n → test k ≡ true → any test n ≡ true
+any-some test n k h p = by-cases (any test n) (λ y. y) (λ y. let z : _≡_ {A = Bool} true false = sym p ∙ none-clear test n y k h in cc)
+
+-- ---- a loop that searches
+
+pub record Seeking (test : ℕ → Bool) (n i : ℕ) : Type 0 where
+  pub within : i ≤ n
+  pub clear : Clear test i
+
+pub seek-none : (test : ℕ → Bool) (n : ℕ) → Seeking test n 0
+seek-none test n = record { within = omega arith; clear = λ k h. absurd (not-suc-le-zero h) }
+
+pub seek-more : {test : ℕ → Bool} {n i : ℕ} → Seeking test n i → i < n → test i ≡ false → Seeking test n (i + 1)
+seek-more {test} {n} {i} s h p = record { within = omega arith; clear = below-more _ i (s .clear) p }
+
+pub seek-hit : {test : ℕ → Bool} {n i : ℕ} → Seeking test n i → i < n → test i ≡ true → i ≡ first test n
+seek-hit {test} {n} {i} s h p = sym (first-is test n i h (s .clear) p)
+
+pub seek-miss : {test : ℕ → Bool} {n i : ℕ} → Seeking test n i → n ≤ i → i ≡ first test n
+seek-miss {test} {n} {i} s h =
+    let e : i ≡ n = le-antisymm (s .within) h in e ∙ sym (first-none test n (rw e at (s .clear)))
+
+-- the same where the loop answers whether there is one
+pub seek-any : {test : ℕ → Bool} {n i : ℕ} → Seeking test n i → i < n → test i ≡ true → any test n ≡ true
+seek-any {test} {n} {i} s h p = any-some test n i h p
+
+pub seek-not-any : {test : ℕ → Bool} {n i : ℕ} → Seeking test n i → n ≤ i → any test n ≡ false
+seek-not-any {test} {n} {i} s h = le-ltb (first test n) n (omega (arith, seek-miss s h))
