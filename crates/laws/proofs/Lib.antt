@@ -1,2 +1,4 @@
 pub mod Search
 pub mod Divisor
+pub mod Lists
+pub mod Writing
