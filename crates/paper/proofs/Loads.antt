@@ -10,8 +10,6 @@ use mathlib.Core.Bool.{Bool, true, false, not, _&&_}
 use native.Mathlib.Nat.{zero-mul, one-mul, suc-mul, add-suc, add-zero}
 use native.Mathlib.Numerals.{add-one}
 use native.Mathlib.Omega.{arith}
-use lib.Dec.{eqb}
-use borrow.Author.Tests.{eqb-true, eqb-false, eq-eqb, ne-eqb}
 use lib.Arith.{digits-div, digits-mod}
 use Rattle.laws.specs.Choice.{one-if}
 use Rattle.laws.specs.Sum.{sumTo}
@@ -23,7 +21,9 @@ use Rattle.paper.specs.declared.Held.the-variants.{Idle, By}
 use Rattle.paper.specs.Words.{row, engine, Table, heldIn, same, busy}
 use Rattle.paper.specs.Rotation.{link, firstOf, nextOf, rowAt}
 use Rattle.paper.specs.Schedule.{Schedule, walk, load, loadsIn, loads}
-use Rattle.paper.proofs.Rotation.{begins, next-linked, next-last, next-sum, row-next, row-sum}
+use Rattle.paper.proofs.Holding.{same-sym}
+use Rattle.paper.proofs.Links.{Closed, link-is, rows-end}
+use Rattle.paper.proofs.Rotation.{next-linked, next-last, next-sum, row-next, row-sum}
 
 -- 1 where a duty is run now that was not run before
 abbrev pub fresh : Held → Held → ℕ
@@ -51,12 +51,6 @@ carries t r = same (heldIn (t .runs) (row r) (t .ticks - 1)) (heldIn (t .runs) (
 -- at how many rows it does
 unfoldable pub carried : Table → ℕ
 carried t = sumTo (t .engines) (λ r. one-if (carries t r))
-
--- a table with at least one tick and one engine, whose last row is not linked
-pub record Closed (t : Table) : Type 0 where
-  pub some-tick : 1 ≤ t .ticks
-  pub some-engine : 1 ≤ t .engines
-  pub no-link : link t (t .engines - 1) ≡ false
 
 -- what an engine runs at unit u of block b is what its row of that block has there
 pub walk-at : (t : Table) (e : Engine) (b u : ℕ) → u < t .ticks → walk t e (b * t .ticks + u) ≡ heldIn (t .runs) (rowAt (link t) b e) u
@@ -114,25 +108,7 @@ engine-loads t e b h =
     ∙ sum-first (t .ticks - 1) (loadAt t e b)
     ∙ ap (λ n. loadAt t e b 0 + n) (sum-ext (t .ticks - 1) (λ u. loadAt t e b (suc u)) _ (λ u l. load-inside t e b u (omega arith)))
 
--- the test of a link
-pub link-is : (t : Table) (r : ℕ) → link t r ≡ same (heldIn (t .runs) (row r) (t .ticks - 1)) (heldIn (t .runs) (row (r + 1)) 0)
-unfolding link
-link-is t r = refl
-
--- the order of an equation does not matter
-eqb-sym : (i j : ℕ) → eqb i j ≡ eqb j i
-eqb-sym i j =
-    by-cases (eqb i j) (λ p. p ∙ sym (eq-eqb j i (sym (eqb-true i j p)))) (λ p. p ∙ sym (ne-eqb j i (λ q. eqb-false i j p (sym q))))
-
 -- ---- what is carried over a boundary
-
--- one duty holds both in either order
-pub same-sym : (g h : Held) → same g h ≡ same h g
-unfolding same
-same-sym Idle Idle = refl
-same-sym Idle (By j) = refl
-same-sym (By i) Idle = refl
-same-sym (By i) (By j) = eqb-sym i j
 
 -- where one duty holds both there is no load, and where none does each busy unit is one
 fresh-same : (now before : Held) → fresh now before + one-if (same now before) ≡ one-if (busy now)
@@ -159,10 +135,6 @@ unfolding carries
 carries-last t r p = rw (next-last (link t) r p)
 
 module _ (t : Table) (ok : Closed t) where
-  -- the rows end where the engines do
-  pub rows-end : firstOf (link t) (t .engines) ≡ t .engines
-  rows-end = begins (link t) (t .engines) (ok .some-engine) (ok .no-link)
-
   -- the loads of block b
   blockLoads : ℕ → ℕ
   blockLoads b = sumTo (t .ticks) (λ u. sumTo (t .engines) (λ e. loadAt t e b u))
@@ -174,14 +146,14 @@ module _ (t : Table) (ok : Closed t) where
       sum-swap (t .ticks) (t .engines) (λ u e. loadAt t e b u)
       ∙ sum-ext (t .engines) (λ e. sumTo (t .ticks) (loadAt t e b)) _ (λ e h. engine-loads t e b (ok .some-tick))
       ∙ sum-plus (t .engines) (λ e. loadAt t e b 0) (λ e. inside t (rowAt (link t) b (engine e) .0))
-      ∙ ap (λ n. sumTo (t .engines) (λ e. loadAt t e b 0) + n) (row-sum (link t) (t .engines) rows-end b (inside t))
+      ∙ ap (λ n. sumTo (t .engines) (λ e. loadAt t e b 0) + n) (row-sum (link t) (t .engines) (rows-end t ok) b (inside t))
 
   -- the first block
   block-first : blockLoads 0 ≡ sumTo (t .engines) (opening t) + sumTo (t .engines) (inside t)
   block-first =
       block-loads 0
       ∙ ap (λ n. n + sumTo (t .engines) (inside t))
-      (sum-ext (t .engines) (λ e. loadAt t e 0 0) _ (λ e h. load-opening t e (ok .some-tick)) ∙ row-sum (link t) (t .engines) rows-end 0 (opening t))
+      (sum-ext (t .engines) (λ e. loadAt t e 0 0) _ (λ e h. load-opening t e (ok .some-tick)) ∙ row-sum (link t) (t .engines) (rows-end t ok) 0 (opening t))
 
   -- every later block
   block-later : (b : ℕ) → blockLoads (suc b) ≡ later t
@@ -189,7 +161,7 @@ module _ (t : Table) (ok : Closed t) where
   block-later b =
       block-loads (suc b)
       ∙ ap (λ n. n + sumTo (t .engines) (inside t))
-      (sum-ext (t .engines) (λ e. loadAt t e (suc b) 0) _ (λ e h. load-boundary t e b (ok .some-tick)) ∙ row-sum (link t) (t .engines) rows-end b (boundary t))
+      (sum-ext (t .engines) (λ e. loadAt t e (suc b) 0) _ (λ e h. load-boundary t e b (ok .some-tick)) ∙ row-sum (link t) (t .engines) (rows-end t ok) b (boundary t))
 
   -- the count by blocks
   loads-blocks : (n : ℕ) → loads t n ≡ sumTo n blockLoads
@@ -229,7 +201,7 @@ module _ (t : Table) (ok : Closed t) where
         loads-first,
         sum-plus (t .engines) (boundary t) (λ r. one-if (carries t r)),
         sum-ext (t .engines) (λ r. boundary t r + one-if (carries t r)) (λ r. opening t (nextOf (link t) r)) (λ r h. boundary-carries t r),
-        next-sum (link t) (t .engines) rows-end (opening t),
+        next-sum (link t) (t .engines) (rows-end t ok) (opening t),
       )
 
   -- the count as code makes it
