@@ -1,21 +1,23 @@
 -- Who holds a unit, by the runs: a run that covers it, and the run's duty.
 -- `heldIn` stops at the first run that covers the unit. Where no two runs of a row share a unit, any run that covers it is that one.
 -- Assumes nothing.
-use Prim.Native.Nat.{ℕ, zero, suc, _<_}
-use mathlib.Core.Path.{_≡_, refl, sym, ap, _∙_}
+use Prim.Native.Nat.{ℕ, zero, suc, _+_, _≤_, _<_}
+use mathlib.Core.Path.{_≡_, refl, sym, _∙_}
 use mathlib.Core.Bool.{Bool, true, false, _&&_}
 use mathlib.Core.List.{List, [], _∷_}
 use native.Mathlib.Nat.{not-suc-le-zero, le-of-suc-le-suc}
+use native.Mathlib.Numerals.{add-one}
 use native.Mathlib.Omega.{arith}
 use lib.Dec.{leb, ltb, eqb}
-use lib.ListN.{length}
+use lib.ListN.{length, drop, drop-of-length-le}
+use lib.Seq.{drop-cons}
 use borrow.Author.Tests.{eqb-true, eqb-false, ne-eqb, leb-true, ltb-true, eq-eqb, le-leb, lt-ltb}
 use Rattle.laws.proofs.Cases.{by-cases, lt-or-le}
 use Rattle.paper.specs.declared.Row.{Row}
 use Rattle.paper.specs.declared.Run.{Run}
 use Rattle.paper.specs.declared.Held.{Held}
 use Rattle.paper.specs.declared.Held.the-variants.{Idle, By}
-use Rattle.paper.specs.Words.{run, stop, covers, runAt, heldIn, same, busy}
+use Rattle.paper.specs.Words.{run, stop, covers, runAt, heldIn, same}
 use Rattle.paper.specs.Statements.{Has, Apart}
 use Rattle.paper.proofs.Rotation.{not-both}
 
@@ -112,3 +114,15 @@ same-sym Idle Idle = refl
 same-sym Idle (By j) = refl
 same-sym (By i) Idle = refl
 same-sym (By i) (By j) = eqb-sym i j
+
+-- ---- for a loop over the runs: what the runs from k on hold
+
+pub held-from-yes : (xs : List Run) (r : Row) (u k : ℕ) → k < length xs → covers (runAt xs k) r u ≡ true → heldIn (drop k xs) r u ≡ By (runAt xs k .duty)
+held-from-yes xs r u k h p = rw (drop-cons xs k (run 0 0 0 0) h) (held-yes (runAt xs k) (drop (suc k) xs) r u p)
+
+pub held-from-no : (xs : List Run) (r : Row) (u k : ℕ) → k < length xs → covers (runAt xs k) r u ≡ false → heldIn (drop k xs) r u ≡ heldIn (drop (k + 1) xs) r u
+held-from-no xs r u k h p = rw (add-one k, drop-cons xs k (run 0 0 0 0) h) (held-no (runAt xs k) (drop (suc k) xs) r u p)
+
+pub held-from-end : (xs : List Run) (r : Row) (u k : ℕ) → length xs ≤ k → heldIn (drop k xs) r u ≡ Idle
+unfolding heldIn
+held-from-end xs r u k h = rw (drop-of-length-le xs h)

@@ -1,7 +1,7 @@
 -- The links of a table, and where its chains end.
 -- No run of a table in range is on a row past the last, so that row is idle and nothing is chained to the last row.
 -- Assumes nothing.
-use Prim.Native.Nat.{ℕ, _+_, _-_, _≤_, _<_}
+use Prim.Native.Nat.{ℕ, _+_, _-_, _≤_}
 use mathlib.Core.Path.{_≡_, refl, ap, _∙_}
 use mathlib.Core.Bool.{false}
 use native.Mathlib.Omega.{arith}

@@ -4,17 +4,17 @@
 -- once, so every block after the first has as many loads. And what a later block lacks of the first are the rows whose duty goes on over
 -- the boundary.
 -- Assumes nothing.
-use Prim.Native.Nat.{ℕ, zero, suc, _+_, _-_, _*_, _/_, _%_, _≤_, _<_}
+use Prim.Native.Nat.{ℕ, zero, suc, _+_, _-_, _*_, _≤_, _<_}
 use mathlib.Core.Path.{_≡_, refl, sym, ap, _∙_}
-use mathlib.Core.Bool.{Bool, true, false, not, _&&_}
-use native.Mathlib.Nat.{zero-mul, one-mul, suc-mul, add-suc, add-zero}
+use mathlib.Core.Bool.{Bool, true, not, _&&_}
+use native.Mathlib.Nat.{zero-mul, suc-mul, add-suc}
 use native.Mathlib.Numerals.{add-one}
 use native.Mathlib.Omega.{arith}
 use lib.Arith.{digits-div, digits-mod}
-use Rattle.laws.specs.Choice.{one-if}
+use Rattle.laws.specs.Choice.{pick, one-if}
 use Rattle.laws.specs.Sum.{sumTo}
 use Rattle.laws.proofs.Cases.{by-cases}
-use Rattle.laws.proofs.Sum.{sum-ext, sum-suc, sum-none, sum-one, sum-first, sum-plus, sum-const, sum-swap, sum-blocks}
+use Rattle.laws.proofs.Sum.{sum-ext, sum-suc, sum-none, sum-one, sum-first, sum-plus, sum-most, sum-swap, sum-blocks}
 use Rattle.paper.specs.declared.Engine.{Engine}
 use Rattle.paper.specs.declared.Held.{Held}
 use Rattle.paper.specs.declared.Held.the-variants.{Idle, By}
@@ -125,14 +125,19 @@ boundary-carries t r =
     ap (λ b. fresh now before + one-if b) (same-sym before now) ∙ fresh-same now before
 
 -- a linked row's duty is always carried, and the last row's of a chain where the chain's first row begins with it
-pub carries-linked : (t : Table) (r : ℕ) → link t r ≡ true → carries t r ≡ true
+pub carries-is : (t : Table) (r : ℕ)
+    → carries t r ≡ pick (link t r) true (same (heldIn (t .runs) (row r) (t .ticks - 1)) (heldIn (t .runs) (row (firstOf (link t) r)) 0))
 unfolding carries
-carries-linked t r p = rw (next-linked (link t) r p, ← add-one r) (sym (link-is t r) ∙ p)
+carries-is t r =
+    by-cases (link t r)
+    (λ p. rw (p, next-linked (link t) r p, ← add-one r) (sym (link-is t r) ∙ p))
+    (λ p. rw (p, next-last (link t) r p))
 
-pub carries-last : (t : Table) (r : ℕ) → link t r ≡ false →
-    carries t r ≡ same (heldIn (t .runs) (row r) (t .ticks - 1)) (heldIn (t .runs) (row (firstOf (link t) r)) 0)
-unfolding carries
-carries-last t r p = rw (next-last (link t) r p)
+-- at most each row's is
+pub carried-most : (t : Table) → carried t ≤ t .engines
+unfolding carried
+carried-most t =
+    omega (arith, sum-most (t .engines) 1 (λ r. one-if (carries t r)) (λ r h. by-cases (carries t r) (λ p. rw p (omega arith)) (λ p. rw p (omega arith))))
 
 module _ (t : Table) (ok : Closed t) where
   -- the loads of block b

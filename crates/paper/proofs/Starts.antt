@@ -6,26 +6,25 @@
 -- Assumes nothing.
 use Prim.Native.Nat.{ℕ, zero, suc, _+_, _-_, _*_, _≤_, _<_}
 use mathlib.Core.Path.{_≡_, refl, sym, ap, _∙_}
-use mathlib.Core.Bool.{Bool, true, false, not, _&&_}
+use mathlib.Core.Bool.{true, false, _&&_}
 use mathlib.Core.List.{List}
 use native.Mathlib.Omega.{arith}
 use lib.Dec.{eqb}
 use lib.ListN.{length}
 use borrow.Author.Tests.{eqb-true, eqb-false, eq-eqb, ne-eqb}
-use Rattle.laws.specs.Choice.{one-if}
+use Rattle.laws.specs.Choice.{pick, one-if}
 use Rattle.laws.specs.Sum.{sumTo}
 use Rattle.laws.proofs.Cases.{by-cases, lt-or-le}
 use Rattle.laws.proofs.Sum.{sum-ext, sum-first, sum-plus, sum-const, sum-swap, sum-zero, sum-only, count-cell}
 use Rattle.paper.specs.declared.Run.{Run}
-use Rattle.paper.specs.declared.Held.the-variants.{Idle, By}
-use Rattle.paper.specs.Words.{row, run, stop, Table, runAt, heldIn, same, busy}
+use Rattle.paper.specs.declared.Held.the-variants.{By}
+use Rattle.paper.specs.Words.{row, stop, Table, runAt, heldIn, same, busy}
 use Rattle.paper.specs.Schedule.{loads}
 use Rattle.paper.specs.Bytes.{Width}
 use Rattle.paper.specs.Statements.{Ranged, Meets, Has}
-use Rattle.paper.proofs.Rotation.{not-both}
-use Rattle.paper.proofs.Holding.{both-true, Covering, RowsApart, has-covers, covers-has, covers-row, held-cases, held-by, covering-one, same-idle}
+use Rattle.paper.proofs.Holding.{both-true, Covering, RowsApart, has-covers, covers-has, covers-row, held-cases, held-by, covering-one}
 use Rattle.paper.proofs.Links.{Closed, closed}
-use Rattle.paper.proofs.Loads.{fresh, opening, inside, later, carried, loads-first, loads-closed, later-carried}
+use Rattle.paper.proofs.Loads.{fresh, opening, inside, later, carried, loads-none, loads-first, loads-closed, later-carried}
 
 -- what the count needs of the runs: each has units, inside the block and on a row of the table; 14; 15
 pub record Laid (m t : ℕ) (xs : List Run) : Type 0 where
@@ -166,3 +165,16 @@ module _ (t : Table) (ends : Closed t) (ok : Laid (t .engines) (t .ticks) (t .ru
   -- the count of B blocks, from the runs and what is carried
   pub loads-by-runs : (n : ℕ) → loads t (n + 1) ≡ length (t .runs) + n * (length (t .runs) - carried t)
   loads-by-runs n = loads-closed t ends n ∙ ap (λ x. x + n * later t) loads-runs ∙ ap (λ x. length (t .runs) + n * x) (omega (arith, later-runs))
+
+  -- .. with no blocks too
+  pub loads-of : (n : ℕ) → loads t n ≡ pick (eqb n 0) 0 (length (t .runs) + (n - 1) * (length (t .runs) - carried t))
+  loads-of zero = loads-none t ends
+  loads-of (suc n) =
+      let y : suc n ≡ n + 1 = omega arith in
+      let z : suc n - 1 ≡ n = omega arith in
+      rw (ne-eqb (suc n) 0 (λ e. omega arith), z, y) (loads-by-runs n)
+
+-- the count of loads of a table in range that meets the rules
+pub loads-met : (w : Width) (t : Table) → Ranged w t → Meets t → (n : ℕ)
+    → loads t n ≡ pick (eqb n 0) 0 (length (t .runs) + (n - 1) * (length (t .runs) - carried t))
+loads-met w t g o n = loads-of t (closed w t g) (laid w t g o) n
