@@ -4,3 +4,4 @@ pub mod Sum
 pub mod Divisor
 pub mod Lists
 pub mod Writing
+pub mod Each
