@@ -82,3 +82,38 @@ follows t (n ∷ ns) i r u a h =
   where
     ahead : (r₁ u₁ l r′ u′ : ℕ) → u′ < t → r₁ * t + u₁ + l ≤ r′ * t + u′ → Each (Follows t (run r₁ i u₁ l)) (lay t ns (i + 1) r′ u′)
     ahead r₁ u₁ l r′ u′ c e = each-map (Of t ns (i + 1) r′ u′) (Follows t (run r₁ i u₁ l)) (λ x k. record { after = omega arith; split = λ s. omega arith }) (lay t ns (i + 1) r′ u′) (laid t ns (i + 1) r′ u′ c (h .1))
+
+-- where the slices fit m rows, every run's row is below m ..
+pub rows-below :
+    (t m : ℕ) (ns : List ℕ) (i r u : ℕ) → u < t → Each (Slice t) ns → r * t + u + sumOf ns ≤ m * t → Each (λ x. x .row .0 < m) (lay t ns i r u)
+rows-below t m ns i r u a h fit =
+    each-map (Of t ns i r u) (λ x. x .row .0 < m) (λ x l. lt-of-mul-lt-mul-right t (omega arith)) (lay t ns i r u) (laid t ns i r u a h)
+
+-- .. and where every run's row is below m, the slices fit
+pub rows-fit :
+    (t m : ℕ) (ns : List ℕ) (i r u : ℕ) → u < t → Each (Slice t) ns → r * t + u ≤ m * t → Each (λ x. x .row .0 < m) (lay t ns i r u)
+    → r * t + u + sumOf ns ≤ m * t
+unfolding sumOf
+rows-fit t m [] i r u a h z = λ below. omega arith
+rows-fit t m (n ∷ ns) i r u a h z =
+    lay-cases t n ns i r u a (h .0 .1) (λ xs. Each (λ x. x .row .0 < m) xs → r * t + u + (n + sumOf ns) ≤ m * t)
+    (λ r′ u′ b e c d below.
+      let k : (r + 1) * t ≤ m * t = mul-le-mul-right t (omega arith) in
+      omega (arith, rows-fit t m ns (i + 1) r′ u′ c (h .1) (omega arith) (below .1)))
+    (λ u′ e c d below.
+      let k : (r + 2) * t ≤ m * t = mul-le-mul-right t (omega arith) in
+      omega (arith, rows-fit t m ns (i + 1) (r + 1) u′ c (h .1) (omega arith) (below .1 .1)))
+
+-- at most one run more than duties for each row but the first
+pub few-runs :
+    (t m n : ℕ) (ns : List ℕ) (i r u : ℕ) → u < t → Each (Slice t) (n ∷ ns) → r * t + u + sumOf (n ∷ ns) ≤ m * t
+    → length (lay t (n ∷ ns) i r u) + r + 1 ≤ length (n ∷ ns) + m
+unfolding sumOf lay
+few-runs t m n [] i r u a h z =
+    lay-cases t n [] i r u a (h .0 .1) (λ xs. length xs + r + 1 ≤ 1 + m)
+    (λ r′ u′ b e c d. let k : r < m = lt-of-mul-lt-mul-right t (omega arith) in omega arith)
+    (λ u′ e c d. let k : r + 1 < m = lt-of-mul-lt-mul-right t (omega arith) in omega arith)
+few-runs t m n (n′ ∷ ns) i r u a h z =
+    lay-cases t n (n′ ∷ ns) i r u a (h .0 .1) (λ xs. length xs + r + 1 ≤ length (n ∷ n′ ∷ ns) + m)
+    (λ r′ u′ b e c d. omega (arith, few-runs t m n′ ns (i + 1) r′ u′ c (h .1) (omega arith)))
+    (λ u′ e c d. omega (arith, few-runs t m n′ ns (i + 1) (r + 1) u′ c (h .1) (omega arith)))
