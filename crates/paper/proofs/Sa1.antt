@@ -13,14 +13,11 @@ use lib.ListN.{length, getD}
 use borrow.Author.Tests.{ltb-true, ltb-false, leb-true, leb-false}
 use Rattle.laws.specs.Choice.{pick}
 use Rattle.laws.specs.Lists.{sumOf}
+use Rattle.laws.proofs.Search.{by-cases}
 use Rattle.laws.proofs.Each.{Each, Pairs, each-map}
 use Rattle.paper.specs.declared.Run.{Run}
 use Rattle.paper.specs.Words.{run, stop}
 use Rattle.paper.specs.Sa1.{lay, layOne, rowAfter, unitAfter}
-
-by-cases : {P : Type 0} (b : Bool) → (b ≡ true → P) → (b ≡ false → P) → P
-by-cases true f g = f refl
-by-cases false f g = g refl
 
 -- a slice that is neither nothing nor more than a row
 abbrev pub Slice : ℕ → ℕ → Type 0
