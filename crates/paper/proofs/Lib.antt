@@ -1,2 +1,3 @@
 pub mod Sa1
 pub mod Sa1Shares
+pub mod Sa1Table

@@ -2,16 +2,14 @@
 -- on, so each run starts where its forerunner stopped; a run never leaves its row; and where a duty is split, its second
 -- run starts a new row and stops before its first run's unit, since a slice is at most T.
 -- Assumes nothing.
-use Prim.Native.Nat.{ℕ, zero, suc, _+_, _*_, _-_, _≤_, _<_}
-use mathlib.Core.Path.{_≡_, refl, sym, ap, _∙_}
-use mathlib.Core.Bool.{Bool, true, false}
-use mathlib.Core.List.{List, [], _∷_, _++_}
+use Prim.Native.Nat.{ℕ, _+_, _*_, _-_, _≤_, _<_}
+use mathlib.Core.Path.{_≡_}
+use mathlib.Core.List.{List, [], _∷_}
 use native.Mathlib.Nat.{mul-le-mul-right, lt-of-mul-lt-mul-right}
 use native.Mathlib.Omega.{arith}
-use lib.Dec.{leb, ltb, eqb}
-use lib.ListN.{length, getD}
+use lib.Dec.{leb, ltb}
+use lib.ListN.{length}
 use borrow.Author.Tests.{ltb-true, ltb-false, leb-true, leb-false}
-use Rattle.laws.specs.Choice.{pick}
 use Rattle.laws.specs.Lists.{sumOf}
 use Rattle.laws.proofs.Search.{by-cases}
 use Rattle.laws.proofs.Each.{Each, Pairs, each-map}
@@ -33,10 +31,10 @@ unfolding lay layOne rowAfter unitAfter
 lay-cases t n ns i r u a b P fits splits =
     by-cases (leb (u + n) t)
     (λ p. by-cases (ltb (u + n) t)
-      (λ q. rw (p, q) (fits r (u + n) (omega arith) (omega arith) (omega (arith, ltb-true)) (omega (arith, leb-true))))
-      (λ q. rw (p, q) (fits (r + 1) (u + n - t) (omega arith) (omega (arith, leb-true, ltb-false)) (omega (arith, leb-true, ltb-false)) (omega (arith, leb-true)))))
+    (λ q. rw (p, q) (fits r (u + n) (omega arith) (omega arith) (omega (arith, ltb-true)) (omega (arith, leb-true))))
+    (λ q. rw (p, q) (fits (r + 1) (u + n - t) (omega arith) (omega (arith, leb-true, ltb-false)) (omega (arith, leb-true, ltb-false)) (omega (arith, leb-true)))))
     (λ p. by-cases (ltb (u + n) t) (λ q. absurd (omega (arith, leb-false, ltb-true)))
-      (λ q. rw (p, q) (splits (u + n - t) (omega (arith, leb-false)) (omega (arith, leb-false)) (omega (arith, leb-false)))))
+    (λ q. rw (p, q) (splits (u + n - t) (omega (arith, leb-false)) (omega (arith, leb-false)) (omega (arith, leb-false)))))
 
 -- a run of duties i to j - 1, inside its row and between the places lo and hi
 pub record Laid (t i j lo hi : ℕ) (x : Run) : Type 0 where
@@ -95,11 +93,11 @@ rows-fit t m [] i r u a h z = λ below. omega arith
 rows-fit t m (n ∷ ns) i r u a h z =
     lay-cases t n ns i r u a (h .0 .1) (λ xs. Each (λ x. x .row .0 < m) xs → r * t + u + (n + sumOf ns) ≤ m * t)
     (λ r′ u′ b e c d below.
-      let k : (r + 1) * t ≤ m * t = mul-le-mul-right t (omega arith) in
-      omega (arith, rows-fit t m ns (i + 1) r′ u′ c (h .1) (omega arith) (below .1)))
+    let k : (r + 1) * t ≤ m * t = mul-le-mul-right t (omega arith) in
+    omega (arith, rows-fit t m ns (i + 1) r′ u′ c (h .1) (omega arith) (below .1)))
     (λ u′ e c d below.
-      let k : (r + 2) * t ≤ m * t = mul-le-mul-right t (omega arith) in
-      omega (arith, rows-fit t m ns (i + 1) (r + 1) u′ c (h .1) (omega arith) (below .1 .1)))
+    let k : (r + 2) * t ≤ m * t = mul-le-mul-right t (omega arith) in
+    omega (arith, rows-fit t m ns (i + 1) (r + 1) u′ c (h .1) (omega arith) (below .1 .1)))
 
 -- at most one run more than duties for each row but the first
 pub few-runs :

@@ -2,20 +2,19 @@
 -- duties are split than there are rows. The later duties' runs carry higher numbers, so a duty's share is what is laid
 -- at its own step.
 -- Assumes nothing.
-use Prim.Native.Nat.{ℕ, zero, suc, _+_, _*_, _-_, _≤_, _<_}
-use mathlib.Core.Path.{_≡_, refl, sym, ap, _∙_}
-use mathlib.Core.Bool.{Bool, true, false}
+use Prim.Native.Nat.{ℕ, zero, suc, _+_, _<_}
+use mathlib.Core.Path.{_≡_, refl, sym, _∙_}
+use mathlib.Core.Bool.{Bool}
 use mathlib.Core.List.{List, [], _∷_}
 use native.Mathlib.Nat.{add-zero, not-suc-le-zero, le-of-suc-le-suc}
 use native.Mathlib.Omega.{arith}
-use lib.Dec.{leb, ltb, eqb}
+use lib.Dec.{ltb, eqb}
 use lib.ListN.{length, getD}
 use borrow.Author.Tests.{eq-eqb, ne-eqb}
-use Rattle.laws.specs.Choice.{pick, one-if}
-use Rattle.laws.specs.Lists.{sumOf}
+use Rattle.laws.specs.Choice.{one-if}
 use Rattle.laws.proofs.Each.{Each, each-map}
 use Rattle.paper.specs.declared.Run.{Run}
-use Rattle.paper.specs.Words.{run, stop}
+use Rattle.paper.specs.Words.{run}
 use Rattle.paper.specs.Sa1.{lay}
 use Rattle.paper.specs.Rules.{unitsOf}
 use Rattle.paper.proofs.Sa1.{Slice, Of, lay-cases, laid}
