@@ -11,6 +11,8 @@ use native.Mathlib.Omega.{arith}
 use lib.Dec.{ltb, eqb}
 use lib.ListN.{length, getD, length-map}
 use borrow.Author.Tests.{lt-ltb, ltb-true, ltb-false, eqb-true, eqb-false}
+use Rattle.laws.specs.Choice.{one-if}
+use Rattle.laws.specs.Sum.{sumTo}
 use Rattle.laws.specs.Lists.{sumOf}
 use Rattle.laws.proofs.Search.{by-cases}
 use Rattle.laws.proofs.Each.{Each, each-at, at-each, each-of-map, pairs-at}
@@ -22,7 +24,7 @@ use Rattle.paper.specs.Bytes.{Width, mostTicks}
 use Rattle.paper.specs.Rules.{before, unitsOf}
 use Rattle.paper.specs.Statements.{DutyRanged, RunRanged, Ranged, Apart, Meets}
 use Rattle.paper.proofs.Sa1.{Slice, Of, Follows, laid, follows, rows-below, few-runs}
-use Rattle.paper.proofs.Sa1Shares.{units-laid}
+use Rattle.paper.proofs.Sa1Shares.{units-laid, isSplit, few-splits}
 
 -- a whole slice is from 1 to T
 pub slice-bounds : (t : ℕ) (x : Duty) → 1 ≤ t → DutyRanged x → x .period ∣ t * x .service → Slice t (slice t x)
@@ -31,6 +33,12 @@ slice-bounds t x a d w = (
   le-div-iff-mul-le (d .period-least) .1 (omega (arith, le-of-dvd (mul-pos a (d .service-least)) w)),
   div-le-of-le-mul (x .period) (omega (arith, mul-le-mul-left t (d .service-most))),
 )
+
+-- a T that divides the periods is no longer than the longest period may be
+pub ticks-within :
+    (t : ℕ) (ds : List Duty) → 1 ≤ length ds → ((i : ℕ) → i < length ds → DutyRanged (dutyAt ds i))
+    → ((i : ℕ) → i < length ds → t ∣ dutyAt ds i .period) → t ≤ mostTicks
+ticks-within t ds a r d = omega (arith, r 0 a, le-of-dvd (r 0 a .period-least) (d 0 a))
 
 -- what the builder has made sure of: everything in range, the slices whole, and no more of them than the engines have units
 pub record Fits (w : Width) (t m : ℕ) (ds : List Duty) : Type 0 where
@@ -102,6 +110,18 @@ module _ (w : Width) (t m : ℕ) (ds : List Duty) (f : Fits w t m ds) where
       few : (ds : List Duty) → Each (Slice t) (slices t ds) → 1 ≤ length ds → sumOf (slices t ds) ≤ m * t → length (lay t (slices t ds) 0 0 0) + 1 ≤ length ds + m
       few [] h a b = absurd (not-suc-le-zero a)
       few (x ∷ xs) h a b = omega (arith, length-map xs (slice t), few-runs t m (slice t x) (slices t xs) 0 0 0 (f .ticks-least) h (omega arith))
+
+  -- fewer duties are split than there are engines
+  pub sa1-few-splits : sumTo (length ds) (λ i. one-if (isSplit (sa1 t m ds .runs) i)) + 1 ≤ m
+  unfolding sa1
+  sa1-few-splits = few ds all-slices (f .duties-least) (f .slices-fit)
+    where
+      few :
+          (ds : List Duty) → Each (Slice t) (slices t ds) → 1 ≤ length ds → sumOf (slices t ds) ≤ m * t
+          → sumTo (length ds) (λ i. one-if (isSplit (lay t (slices t ds) 0 0 0) i)) + 1 ≤ m
+      few [] h a b = absurd (not-suc-le-zero a)
+      few (x ∷ xs) h a b =
+          rw (← length-map xs (slice t)) (few-splits t m (slice t x) (slices t xs) (f .ticks-least) h b)
 
   -- the table is in form
   pub sa1-ranged : w .mostDuties + w .mostEngines ≤ w .mostRuns + 1 → Ranged w (sa1 t m ds)
