@@ -5,3 +5,4 @@ pub mod Divisor
 pub mod Lists
 pub mod Writing
 pub mod Each
+pub mod Digits

@@ -11,7 +11,7 @@ use lib.Dec.{leb, ltb}
 use lib.ListN.{length}
 use borrow.Author.Tests.{ltb-true, ltb-false, leb-true, leb-false}
 use Rattle.laws.specs.Lists.{sumOf}
-use Rattle.laws.proofs.Search.{by-cases}
+use Rattle.laws.proofs.Cases.{by-cases}
 use Rattle.laws.proofs.Each.{Each, Pairs, each-map}
 use Rattle.paper.specs.declared.Run.{Run}
 use Rattle.paper.specs.Words.{run, stop}

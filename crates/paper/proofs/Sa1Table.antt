@@ -14,7 +14,7 @@ use borrow.Author.Tests.{lt-ltb, ltb-true, ltb-false, eqb-true, eqb-false}
 use Rattle.laws.specs.Choice.{one-if}
 use Rattle.laws.specs.Sum.{sumTo}
 use Rattle.laws.specs.Lists.{sumOf}
-use Rattle.laws.proofs.Search.{by-cases}
+use Rattle.laws.proofs.Cases.{by-cases}
 use Rattle.laws.proofs.Each.{Each, each-at, at-each, each-of-map, pairs-at}
 use Rattle.paper.specs.declared.Duty.{Duty}
 use Rattle.paper.specs.declared.Run.{Run}
