@@ -6,3 +6,4 @@ pub mod Lists
 pub mod Writing
 pub mod Each
 pub mod Digits
+pub mod Parts
