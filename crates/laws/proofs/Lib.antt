@@ -5,3 +5,6 @@ pub mod Divisor
 pub mod Lists
 pub mod Writing
 pub mod Fields
+pub mod Each
+pub mod Digits
+pub mod Parts

@@ -4,3 +4,6 @@ pub mod Holding
 pub mod Links
 pub mod Loads
 pub mod Starts
+pub mod Sa1
+pub mod Sa1Shares
+pub mod Sa1Table
