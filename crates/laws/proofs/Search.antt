@@ -12,6 +12,7 @@ use borrow.Author.Tests.{ltb-true, ltb-false, lt-ltb, le-ltb}
 use borrow.Author.Count.{below-more}
 use mathlib.Core.Logic.{⊎-elim}
 use Rattle.laws.specs.Search.{first, any}
+pub use Rattle.laws.proofs.Cases.{by-cases}
 
 -- no index below n passes
 abbrev pub Clear : (ℕ → Bool) → ℕ → Type 0
@@ -25,11 +26,6 @@ first-yes test n h = rw (h, first)
 first-no : (test : ℕ → Bool) (n : ℕ) → test 0 ≡ false → first test (suc n) ≡ suc (first (λ k. test (suc k)) n)
 unfolding first
 first-no test n h = rw (h, first)
-
--- a Bool with its equation
-pub by-cases : {P : Type 0} (b : Bool) → (b ≡ true → P) → (b ≡ false → P) → P
-by-cases true f g = f refl
-by-cases false f g = g refl
 
 -- an index that passes and has only failures before it is the one found
 pub first-is : (test : ℕ → Bool) (n i : ℕ) → i < n → Clear test i → test i ≡ true → first test n ≡ i

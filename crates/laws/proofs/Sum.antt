@@ -1,0 +1,168 @@
+-- The laws of sums over the numbers below a bound. Each is an induction on the bound: what is said of n and of the last summand gives
+-- what is said of one more.
+-- Assumes nothing.
+use Prim.Native.Nat.{ℕ, zero, suc, _+_, _*_, _-_, _≤_, _<_}
+use mathlib.Core.Path.{_≡_, refl, sym, ap, _∙_}
+use mathlib.Core.Bool.{_&&_}
+use native.Mathlib.Nat.{not-suc-le-zero, add-suc, add-zero, suc-mul, zero-mul, mul-zero, mul-add}
+use native.Mathlib.Numerals.{add-one}
+use native.Mathlib.Omega.{arith}
+use lib.Dec.{leb, ltb, eqb}
+use borrow.Author.Tests.{eq-eqb, ne-eqb, le-leb, lt-leb, lt-ltb, le-ltb}
+use Rattle.laws.specs.Choice.{one-if}
+use Rattle.laws.specs.Sum.{sumTo}
+use Rattle.laws.proofs.Cases.{lt-or-le}
+
+-- the empty sum, and one summand more
+pub sum-none : (f : ℕ → ℕ) → sumTo 0 f ≡ 0
+unfolding sumTo
+sum-none f = refl
+
+pub sum-suc : (n : ℕ) (f : ℕ → ℕ) → sumTo (suc n) f ≡ sumTo n f + f n
+unfolding sumTo
+sum-suc n f = refl
+
+pub sum-more : (n : ℕ) (f : ℕ → ℕ) → sumTo (n + 1) f ≡ sumTo n f + f n
+sum-more n f = rw (add-one n) (sum-suc n f)
+
+-- a sum of one summand is that
+pub sum-one : (f : ℕ → ℕ) → sumTo 1 f ≡ f 0
+unfolding sumTo
+sum-one f = omega arith
+
+-- equal summands below the bound have equal sums
+pub sum-ext : (n : ℕ) (f g : ℕ → ℕ) → ((k : ℕ) → k < n → f k ≡ g k) → sumTo n f ≡ sumTo n g
+unfolding sumTo
+sum-ext zero f g e = refl
+sum-ext (suc n) f g e = omega (arith, sum-ext n f g (λ k h. e k (omega arith)), e n (omega arith))
+
+-- smaller summands have a smaller sum
+pub sum-le : (n : ℕ) (f g : ℕ → ℕ) → ((k : ℕ) → k < n → f k ≤ g k) → sumTo n f ≤ sumTo n g
+unfolding sumTo
+sum-le zero f g e = omega arith
+sum-le (suc n) f g e = omega (arith, sum-le n f g (λ k h. e k (omega arith)), e n (omega arith))
+
+-- the sum of sums
+pub sum-plus : (n : ℕ) (f g : ℕ → ℕ) → sumTo n (λ k. f k + g k) ≡ sumTo n f + sumTo n g
+unfolding sumTo
+sum-plus zero f g = refl
+sum-plus (suc n) f g = omega (arith, sum-plus n f g)
+
+-- the same number n times
+pub sum-const : (n c : ℕ) → sumTo n (λ k. c) ≡ n * c
+unfolding sumTo
+sum-const zero c = omega (arith, zero-mul c)
+sum-const (suc n) c = omega (arith, sum-const n c, suc-mul n c)
+
+-- nothing n times
+pub sum-zero : (n : ℕ) (f : ℕ → ℕ) → ((k : ℕ) → k < n → f k ≡ 0) → sumTo n f ≡ 0
+unfolding sumTo
+sum-zero zero f e = refl
+sum-zero (suc n) f e = omega (arith, sum-zero n f (λ k h. e k (omega arith)), e n (omega arith))
+
+-- a factor of all summands is one of the sum
+pub sum-times : (n c : ℕ) (f : ℕ → ℕ) → sumTo n (λ k. c * f k) ≡ c * sumTo n f
+unfolding sumTo
+sum-times zero c f = omega (arith, mul-zero c)
+sum-times (suc n) c f = omega (arith, sum-times n c f, mul-add c (sumTo n f) (f n))
+
+-- n summands of at most c are at most n * c
+pub sum-most : (n c : ℕ) (f : ℕ → ℕ) → ((k : ℕ) → k < n → f k ≤ c) → sumTo n f ≤ n * c
+sum-most n c f e = omega (arith, sum-le n f (λ k. c) e, sum-const n c)
+
+-- n summands of at least c are at least n * c
+pub sum-least : (n c : ℕ) (f : ℕ → ℕ) → ((k : ℕ) → k < n → c ≤ f k) → n * c ≤ sumTo n f
+sum-least n c f e = omega (arith, sum-le n (λ k. c) f e, sum-const n c)
+
+-- a sum of 0 has only zeros
+pub sum-zeros : (n : ℕ) (f : ℕ → ℕ) → sumTo n f ≡ 0 → (k : ℕ) → k < n → f k ≡ 0
+sum-zeros zero f e k h = absurd (not-suc-le-zero h)
+sum-zeros (suc n) f e k h =
+    lt-or-le k n (λ l. sum-zeros n f (omega (arith, sum-suc n f)) k l)
+    (λ l. let p : k ≡ n = omega arith in rw p (omega (arith, sum-suc n f)))
+
+-- one summand is at most the sum
+pub sum-has : (n : ℕ) (f : ℕ → ℕ) (k : ℕ) → k < n → f k ≤ sumTo n f
+sum-has zero f k h = absurd (not-suc-le-zero h)
+sum-has (suc n) f k h =
+    lt-or-le k n (λ l. omega (arith, sum-suc n f, sum-has n f k l))
+    (λ l. let p : k ≡ n = omega arith in rw p (omega (arith, sum-suc n f)))
+
+-- a sum over a + b numbers is that over a and that over the b after them
+pub sum-split : (a b : ℕ) (f : ℕ → ℕ) → sumTo (a + b) f ≡ sumTo a f + sumTo b (λ j. f (a + j))
+sum-split a zero f = rw add-zero (omega (arith, sum-none (λ j. f (a + j))))
+sum-split a (suc b) f = rw (add-suc a b) (omega (arith, sum-suc (a + b) f, sum-suc b (λ j. f (a + j)), sum-split a b f))
+
+-- the first summand apart
+pub sum-first : (n : ℕ) (f : ℕ → ℕ) → sumTo (suc n) f ≡ f 0 + sumTo n (λ k. f (suc k))
+sum-first zero f = omega (arith, sum-suc 0 f, sum-none f, sum-none (λ k. f (suc k)))
+sum-first (suc n) f = omega (arith, sum-suc (suc n) f, sum-suc n (λ k. f (suc k)), sum-first n f)
+
+-- a sum over n blocks of t numbers, block by block
+pub sum-blocks : (n t : ℕ) (f : ℕ → ℕ) → sumTo (n * t) f ≡ sumTo n (λ b. sumTo t (λ u. f (b * t + u)))
+sum-blocks zero t f = rw (zero-mul t) (sum-none f ∙ sym (sum-none (λ b. sumTo t (λ u. f (b * t + u)))))
+sum-blocks (suc n) t f =
+    rw (suc-mul n t)
+    (omega (arith, sum-split (n * t) t f, sum-blocks n t f, sum-suc n (λ b. sumTo t (λ u. f (b * t + u)))))
+
+-- two sums change places
+pub sum-swap : (n m : ℕ) (f : ℕ → ℕ → ℕ) → sumTo n (λ i. sumTo m (λ j. f i j)) ≡ sumTo m (λ j. sumTo n (λ i. f i j))
+sum-swap zero m f = sum-none (λ i. sumTo m (λ j. f i j)) ∙ sym (sum-zero m (λ j. sumTo 0 (λ i. f i j)) (λ j h. sum-none (λ i. f i j)))
+sum-swap (suc n) m f =
+    sum-suc n (λ i. sumTo m (λ j. f i j))
+    ∙ ap (λ s. s + sumTo m (λ j. f n j)) (sum-swap n m f)
+    ∙ sym (sum-plus m (λ j. sumTo n (λ i. f i j)) (λ j. f n j))
+    ∙ sym (sum-ext m (λ j. sumTo (suc n) (λ i. f i j)) (λ j. sumTo n (λ i. f i j) + f n j) (λ j h. sum-suc n (λ i. f i j)))
+
+-- ---- counts
+
+-- of the numbers below n none is i where n ≤ i
+pub count-none : (n i : ℕ) → n ≤ i → sumTo n (λ k. one-if (eqb k i)) ≡ 0
+count-none n i h = sum-zero n (λ k. one-if (eqb k i)) (λ k l. rw (ne-eqb k i (λ e. omega arith)))
+
+-- .. and one is where i < n
+pub count-is : (n i : ℕ) → i < n → sumTo n (λ k. one-if (eqb k i)) ≡ 1
+count-is zero i h = absurd (not-suc-le-zero h)
+count-is (suc n) i h =
+    lt-or-le i n
+    (λ l. sum-suc n (λ k. one-if (eqb k i)) ∙ (rw (ne-eqb n i (λ e. omega arith)) (omega (arith, count-is n i l))))
+    (λ l. sum-suc n (λ k. one-if (eqb k i)) ∙ (rw (eq-eqb n i (omega arith)) (omega (arith, count-none n i (omega arith)))))
+
+-- a sum whose summands are 0 but at i is the summand there
+pub sum-only : (n i : ℕ) (f : ℕ → ℕ) → i < n → ((k : ℕ) → k < n → (k ≡ i → ⊥) → f k ≡ 0) → sumTo n f ≡ f i
+sum-only zero i f h e = absurd (not-suc-le-zero h)
+sum-only (suc n) i f h e =
+    lt-or-le i n
+    (λ l. omega (arith, sum-suc n f, e n (omega arith) (λ q. omega arith), sum-only n i f l (λ k m d. e k (omega arith) d)))
+    (λ l. let p : n ≡ i = omega arith in
+    omega (arith, sum-suc n f, ap f p, sum-zero n f (λ k m. e k (omega arith) (λ q. omega arith))))
+
+-- 1 inside a stretch, 0 before and after it
+abbrev in-stretch : (a l u : ℕ) → ℕ
+in-stretch a l u = one-if (leb a u && ltb u (a + l))
+
+in-stretch-before : (a l u : ℕ) → u < a → in-stretch a l u ≡ 0
+in-stretch-before a l u h = rw (lt-leb a u)
+
+in-stretch-inside : (a l u : ℕ) → a ≤ u → u < a + l → in-stretch a l u ≡ 1
+in-stretch-inside a l u h k = rw (le-leb a u, lt-ltb u (a + l))
+
+in-stretch-after : (a l u : ℕ) → a + l ≤ u → in-stretch a l u ≡ 0
+in-stretch-after a l u h = rw (le-leb a u (omega arith), le-ltb u (a + l))
+
+-- a stretch of l units from a on, with r units after it, has l units
+stretch : (a l r : ℕ) → sumTo (a + (l + r)) (in-stretch a l) ≡ l
+stretch a l r =
+    omega (
+      arith,
+      sum-split a (l + r) (in-stretch a l),
+      sum-split l r (λ j. in-stretch a l (a + j)),
+      sum-zero a (in-stretch a l) (λ u h. in-stretch-before a l u h),
+      sum-ext l (λ j. in-stretch a l (a + j)) (λ j. 1) (λ j h. in-stretch-inside a l (a + j) (omega arith) (omega arith)),
+      sum-const l 1,
+      sum-zero r (λ j. in-stretch a l (a + (l + j))) (λ j h. in-stretch-after a l (a + (l + j)) (omega arith)),
+    )
+
+-- a stretch of l units from a on, that ends by t, has l of the t units
+pub count-stretch : (t a l : ℕ) → a + l ≤ t → sumTo t (λ u. one-if (leb a u && ltb u (a + l))) ≡ l
+count-stretch t a l h = let p : t ≡ a + (l + (t - (a + l))) = omega arith in rw p (stretch a l (t - (a + l)))

@@ -1,0 +1,94 @@
+-- A writer on its way. Of the text W, all but `rest` is laid over the buffer l; what a callee was lent is the buffer from
+-- the place a on, and what it wrote stands there when the loan comes back.
+-- Assumes nothing.
+use Prim.Native.Nat.{ℕ, zero, suc, _+_, _-_, _≤_, _<_}
+use mathlib.Core.Path.{_≡_, refl, sym, ap, _∙_}
+use mathlib.Core.List.{List, [], _∷_, _++_, append-assoc, append-nil}
+use native.Mathlib.Numerals.{add-one}
+use native.Mathlib.Omega.{arith}
+use lib.ListN.{length, getD, take, drop, set, length-append, length-drop, length-take, drop-of-length-le}
+use lib.Seq.{take-all, take-at, drop-at, drop-drop, drop-cons, set-at}
+use Rattle.laws.specs.Lists.{over}
+
+-- what is written over the front leaves the length
+pub length-over : (a l : List ℕ) → length a ≤ length l → length (over a l) ≡ length l
+unfolding over
+length-over a l h = simp (length-append, length-drop) (omega arith)
+
+pub over-nothing : (l : List ℕ) → over [] l ≡ l
+unfolding over
+over-nothing l = refl
+
+-- a part, then the next one behind it: both, over the front
+over-next : (w p l : List ℕ) → w ++ over p (drop (length w) l) ≡ over (w ++ p) l
+unfolding over
+over-next w p l =
+    rw (length-append w p)
+    (ap (λ (r : List ℕ). w ++ (p ++ r)) (drop-drop (length p) (length w) l) ∙ sym (append-assoc w p (drop (length w + length p) l)))
+
+pub record Wrote (W l rest xs : List ℕ) (a : ℕ) : Type 0 where
+  pub w : List ℕ
+  pub len : length w ≡ a
+  pub is : xs ≡ over w l
+  pub left : w ++ rest ≡ W
+
+-- nothing is written yet
+pub start : (W l : List ℕ) → Wrote W l W l 0
+start W l = record { w = []; len = refl; is = sym (over-nothing l); left = refl }
+
+-- after a call that was lent the buffer from a on, and wrote p over its front
+pub more : (W l rest xs p ys : List ℕ) (a : ℕ) → Wrote W l (p ++ rest) xs a → ys ≡ over p (take (length xs - a) (drop a xs)) → Wrote W l rest (take a xs ++ (ys ++ drop (length xs - a) (drop a xs))) (a + length p)
+unfolding over
+more W l rest xs p ys a r e =
+    record {
+      w = r .w ++ p;
+      len = length-append (r .w) p ∙ ap (λ (n : ℕ). n + length p) (r .len);
+      is = rw (front, whole-tail, no-more, append-nil) (ap (λ (t : List ℕ). r .w ++ t) written ∙ over-next (r .w) p l);
+      left = append-assoc (r .w) p rest ∙ r .left;
+    }
+  where
+    tail : drop a xs ≡ drop (length (r .w)) l
+    tail = ap (drop a) (r .is) ∙ drop-at (r .w) (drop (length (r .w)) l) a (r .len)
+
+    front : take a xs ≡ r .w
+    front = ap (take a) (r .is) ∙ take-at (r .w) (drop (length (r .w)) l) a (r .len)
+
+    no-more : drop (length xs - a) (drop a xs) ≡ []
+    no-more = drop-of-length-le (drop a xs) {i = length xs - a} (rw length-drop (omega arith))
+
+    whole-tail : ys ≡ over p (drop a xs)
+    whole-tail = e ∙ ap (over p) (take-all (length xs - a) (drop a xs) (rw length-drop (omega arith)))
+
+    written : over p (drop a xs) ≡ over p (drop (length (r .w)) l)
+    written = ap (over p) tail
+
+-- after a store at a
+pub stored : (W l rest xs : List ℕ) (v a : ℕ) → Wrote W l (v ∷ rest) xs a → a < length l → Wrote W l rest (set xs a v) (a + 1)
+unfolding over
+stored W l rest xs v a r h =
+    record {
+      w = r .w ++ (v ∷ []);
+      len = length-append (r .w) (v ∷ []) ∙ omega (arith, r .len);
+      is = ap (λ (t : List ℕ). set t a v) shape ∙ set-at (r .w) (getD l a 0) (drop (suc a) l) v a (r .len) ∙ sym goal;
+      left = append-assoc (r .w) (v ∷ []) rest ∙ r .left;
+    }
+  where
+    shape : xs ≡ r .w ++ (getD l a 0 ∷ drop (suc a) l)
+    shape = r .is ∙ ap (λ (n : ℕ). r .w ++ drop n l) (r .len) ∙ ap (λ (t : List ℕ). r .w ++ t) (drop-cons l a 0 h)
+
+    goal : over (r .w ++ (v ∷ [])) l ≡ r .w ++ (v ∷ drop (suc a) l)
+    goal =
+        let n : length (r .w ++ (v ∷ [])) ≡ suc a = length-append (r .w) (v ∷ []) ∙ omega (arith, r .len) in
+        append-assoc (r .w) (v ∷ []) (drop (length (r .w ++ (v ∷ []))) l) ∙ ap (λ (k : ℕ). r .w ++ (v ∷ drop k l)) n
+
+-- all of it is written
+pub done : (W l xs : List ℕ) (a : ℕ) → Wrote W l [] xs a → xs ≡ over W l
+done W l xs a r = r .is ∙ ap (λ (t : List ℕ). over t l) (sym (append-nil (r .w)) ∙ r .left)
+
+-- what is left and the place make up the whole length
+pub room : {W l rest xs : List ℕ} {a : ℕ} → Wrote W l rest xs a → a + length rest ≡ length W
+room {W} {l} {rest} {xs} {a} r = ap (λ (n : ℕ). n + length rest) (sym (r .len)) ∙ sym (length-append (r .w) rest) ∙ ap length (r .left)
+
+-- the rest by another name
+pub next : {W l rest rest′ xs : List ℕ} {a : ℕ} → rest ≡ rest′ → Wrote W l rest xs a → Wrote W l rest′ xs a
+next {W} {l} {rest} {rest′} {xs} {a} e r = record { w = r .w; len = r .len; is = r .is; left = ap (λ (t : List ℕ). r .w ++ t) (sym e) ∙ r .left }
