@@ -1,2 +1,4 @@
+pub mod Rotation
+pub mod Chains
 pub mod Rules
 pub mod Accepted

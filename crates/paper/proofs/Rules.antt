@@ -14,21 +14,15 @@ use lib.ListN.{length}
 use borrow.Author.Tests.{ltb-true, ltb-false, lt-ltb, le-ltb, eqb-true, eqb-false, eq-eqb, ne-eqb, not-true, not-false}
 use Rattle.laws.specs.Choice.{pick}
 use Rattle.laws.specs.Search.{first, any}
-use Rattle.laws.proofs.Search.{Clear, by-cases, none-clear, clear-none, any-some}
+use Rattle.laws.proofs.Cases.{by-cases, lt-or-le}
+use Rattle.laws.proofs.Search.{Clear, none-clear, clear-none}
+use Rattle.laws.proofs.Lists.{and-left, and-right}
 use Rattle.paper.specs.declared.Duty.{Duty}
 use Rattle.paper.specs.declared.Run.{Run}
 use Rattle.paper.specs.Words.{stop, slice, dutyAt, runAt, whole, Table}
 use Rattle.paper.specs.Builder.{badSlice}
 use Rattle.paper.specs.Rules.{before, meet, unordered, overlaps, joins, twice, lowest, unitsOf, badSum, badOrder}
 use Rattle.paper.specs.Statements.{Has, Apart}
-
-and-left : (a b : Bool) → a && b ≡ true → a ≡ true
-and-left true b h = refl
-and-left false b h = h
-
-and-right : (a b : Bool) → a && b ≡ true → b ≡ true
-and-right true b h = h
-and-right false b h = absurd (true≢false (sym h))
 
 -- ---- order
 
