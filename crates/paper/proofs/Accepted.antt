@@ -12,6 +12,8 @@ use lib.ListN.{length, getD, length-map, List·getD-map}
 use borrow.Author.Tests.{eqb-true, eq-eqb, not-false}
 use Rattle.laws.specs.Choice.{pick}
 use Rattle.laws.specs.Search.{first, any}
+use Rattle.laws.specs.Lists.{tab, flat}
+use Rattle.laws.specs.Digits.{digits, numAt}
 use Rattle.laws.specs.Divisor.{gcdOf, gcd, euclid}
 use Rattle.laws.proofs.Search.{none-clear, clear-none}
 use Rattle.laws.proofs.Divisor.{gcdOf-divides}
@@ -19,7 +21,8 @@ use Rattle.paper.specs.declared.Duty.{Duty}
 use Rattle.paper.specs.declared.Run.{Run}
 use Rattle.paper.specs.Words.{duty, run, slice, blockLengthOf, whole, dutyAt, runAt, Table}
 use Rattle.paper.specs.Outcome.{Outcome, refused, answer, andThen}
-use Rattle.paper.specs.Bytes.{Width, small, parse}
+use Rattle.paper.specs.Sa1.{sa1, lay, layOne, rowAfter, unitAfter}
+use Rattle.paper.specs.Bytes.{Width, small, parse, afterHead, afterRuns, headGood, dutyGood, runGood, endGood, badDuty, goodRuns, tableIn, stands, dutyIn, runIn, encode, headBytes, dutyBytes, runBytes, endBytes}
 use Rattle.paper.specs.Builder.{badSlice}
 use Rattle.paper.specs.Rules.{before, meet, unordered, overlaps, joins, twice, lowest, unitsOf, badSum, badOrder, judgeRuns, judgeTable, accepted}
 use Rattle.paper.specs.Statements.{Ranged, Meets}
@@ -168,9 +171,9 @@ ticks-divides t m i h =
     let d = gcdOf-divides ps i (rw (length-map (t .duties) (λ (x : Duty). x .period)) h) in
     rw (m .block-length) (rw (List·getD-map (λ (x : Duty). x .period) (t .duties) i (duty 0 0)) at d)
 
--- ---- a table that no builder wrote
+-- ---- a table that SA1 does not write
 
--- Two duties on two rows with idle gaps, the duty 0 in three pieces
+-- two duties on two rows of three with idle gaps, duty 0 in three pieces and duty 1 in two
 pub byHand : Table
 byHand =
     record {
@@ -180,6 +183,11 @@ byHand =
       runs = run 0 0 1 1 ∷ run 0 1 3 1 ∷ run 2 0 0 1 ∷ run 2 1 2 1 ∷ run 2 0 4 1 ∷ [];
     }
 
-pub byHand-accepted : judgeTable byHand ≡ answer byHand
-unfolding byHand judgeTable judgeRuns badOrder badSum lowest overlaps joins twice meet before unordered unitsOf whole slice badSlice blockLengthOf gcdOf gcd euclid first
+pub byHand-accepted : accepted (encode small byHand) ≡ answer byHand
+unfolding byHand accepted parse afterHead afterRuns headGood dutyGood runGood endGood badDuty goodRuns tableIn stands dutyIn runIn numAt tab encode headBytes dutyBytes runBytes endBytes flat digits judgeTable judgeRuns badOrder badSum lowest overlaps joins twice meet before unordered unitsOf whole slice badSlice blockLengthOf gcdOf gcd euclid first
 byHand-accepted = refl
+
+-- SA1 gives these duties one run each
+pub byHand-own : byHand ≡ sa1 6 3 (byHand .duties) → ⊥
+unfolding byHand sa1 lay layOne rowAfter unitAfter slice
+byHand-own e = let z : _≡_ {A = ℕ} 5 2 = ap (λ (t : Table). length (t .runs)) e in omega arith

@@ -75,29 +75,26 @@ clear-ordered xs o (suc k) h = rw (o k (omega arith))
 
 -- ---- a shared unit
 
--- where each starts before the other stops, and only there, two runs of some length share a unit
-pub meet-when : (x y : Run) → x .first < stop y → y .first < stop x → meet x y ≡ true
+-- where two runs have a unit in common, each starts before the other stops
+pub shares-meet : (x y : Run) (u : ℕ) → Has x u → Has y u → meet x y ≡ true
 unfolding meet
-meet-when x y p q = rw (lt-ltb (x .first) (stop y) p, lt-ltb (y .first) (stop x) q)
+shares-meet x y u p q = rw (lt-ltb (x .first) (stop y) (omega arith), lt-ltb (y .first) (stop x) (omega arith))
 
-pub meet-first : (x y : Run) → meet x y ≡ true → (x .first < stop y) × (y .first < stop x)
+-- where each of two runs of some length starts before the other stops, the later start is a unit of both
+pub meet-shares : (x y : Run) → 1 ≤ x .length → 1 ≤ y .length → meet x y ≡ true → (u : ℕ) × Has x u × Has y u
 unfolding meet
-meet-first x y h = (
-  ltb-true (x .first) (stop y) (and-left (ltb (x .first) (stop y)) (ltb (y .first) (stop x)) h),
-  ltb-true (y .first) (stop x) (and-right (ltb (x .first) (stop y)) (ltb (y .first) (stop x)) h),
-)
+meet-shares x y lx ly h =
+    let p = ltb-true (x .first) (stop y) (and-left (ltb (x .first) (stop y)) (ltb (y .first) (stop x)) h) in
+    let q = ltb-true (y .first) (stop x) (and-right (ltb (x .first) (stop y)) (ltb (y .first) (stop x)) h) in
+    lt-or-le (x .first) (y .first) (λ l. (y .first, (omega arith, omega arith), (omega arith, omega arith)))
+    (λ l. (x .first, (omega arith, omega arith), (omega arith, omega arith)))
 
-pub apart-meet : (x y : Run) → meet x y ≡ false → Apart x y
-apart-meet x y h u p q = true≢false (sym (meet-when x y (omega arith) (omega arith)) ∙ h)
+-- so the test fails exactly when they share none
+pub meet-apart : (x y : Run) → meet x y ≡ false → Apart x y
+meet-apart x y h u p q = true≢false (sym (shares-meet x y u p q) ∙ h)
 
-pub meet-apart : (x y : Run) → 1 ≤ x .length → 1 ≤ y .length → Apart x y → meet x y ≡ false
-meet-apart x y lx ly a =
-    by-cases (meet x y)
-    (λ h. let p = meet-first x y h in
-    by-cases (ltb (x .first) (y .first))
-    (λ l. let m = ltb-true (x .first) (y .first) l in absurd (a (y .first) (omega arith) (omega arith)))
-    (λ l. let m = ltb-false (x .first) (y .first) l in absurd (a (x .first) (omega arith) (omega arith))))
-    (λ h. h)
+pub apart-meet : (x y : Run) → 1 ≤ x .length → 1 ≤ y .length → Apart x y → meet x y ≡ false
+apart-meet x y lx ly a = by-cases (meet x y) (λ h. let s = meet-shares x y lx ly h in absurd (a (s .0) (s .1) (s .2))) (λ h. h)
 
 -- ---- a run and an earlier one
 
@@ -120,12 +117,12 @@ none-lowest bad xs c =
 -- 14: on one row two runs share no unit
 pub overlaps-apart : (x y : Run) → overlaps x y ≡ false → x .row .0 ≡ y .row .0 → Apart x y
 unfolding overlaps
-overlaps-apart x y h e = apart-meet x y (rw (eq-eqb (x .row .0) (y .row .0) e) at h)
+overlaps-apart x y h e = meet-apart x y (rw (eq-eqb (x .row .0) (y .row .0) e) at h)
 
 pub apart-overlaps : (x y : Run) → 1 ≤ x .length → 1 ≤ y .length → (x .row .0 ≡ y .row .0 → Apart x y) → overlaps x y ≡ false
 unfolding overlaps
 apart-overlaps x y lx ly a =
-    by-cases (eqb (x .row .0) (y .row .0)) (λ e. rw e (meet-apart x y lx ly (a (eqb-true (x .row .0) (y .row .0) e)))) (λ e. rw e)
+    by-cases (eqb (x .row .0) (y .row .0)) (λ e. rw e (apart-meet x y lx ly (a (eqb-true (x .row .0) (y .row .0) e)))) (λ e. rw e)
 
 -- 15: of one row and duty, the later run does not start where the earlier stops
 pub joins-not : (x y : Run) → joins x y ≡ false → x .row .0 ≡ y .row .0 → x .duty ≡ y .duty → stop x ≡ y .first → ⊥
@@ -145,7 +142,7 @@ not-joins x y n =
 -- 16: on two rows two runs of one duty share no unit
 pub twice-apart : (x y : Run) → twice x y ≡ false → x .duty ≡ y .duty → (x .row .0 ≡ y .row .0 → ⊥) → Apart x y
 unfolding twice
-twice-apart x y h d r = apart-meet x y (rw (ne-eqb (x .row .0) (y .row .0) r, eq-eqb (x .duty) (y .duty) d) at h)
+twice-apart x y h d r = meet-apart x y (rw (ne-eqb (x .row .0) (y .row .0) r, eq-eqb (x .duty) (y .duty) d) at h)
 
 pub apart-twice : (x y : Run) → 1 ≤ x .length → 1 ≤ y .length → (x .duty ≡ y .duty → (x .row .0 ≡ y .row .0 → ⊥) → Apart x y) → twice x y ≡ false
 unfolding twice
@@ -153,18 +150,16 @@ apart-twice x y lx ly a =
     by-cases (eqb (x .row .0) (y .row .0))
     (λ r. rw r)
     (λ r. by-cases (eqb (x .duty) (y .duty))
-    (λ d. rw (r, d) (meet-apart x y lx ly (a (eqb-true (x .duty) (y .duty) d) (eqb-false (x .row .0) (y .row .0) r))))
+    (λ d. rw (r, d) (apart-meet x y lx ly (a (eqb-true (x .duty) (y .duty) d) (eqb-false (x .row .0) (y .row .0) r))))
     (λ d. rw (r, d)))
 
 -- 15 of all runs: a run of the same row that stops where this one starts is another and stands before it
 pub joins-any : (xs : List Run) → InOrder xs → ((k : ℕ) → k < length xs → 1 ≤ runAt xs k .length) → NoPair joins xs → (j k : ℕ) → j < length xs → k < length xs → runAt xs j .row .0 ≡ runAt xs k .row .0 → runAt xs j .duty ≡ runAt xs k .duty → stop (runAt xs j) ≡ runAt xs k .first → ⊥
 joins-any xs o long n j k hj hk r d s =
-    by-cases (ltb j k)
-    (λ l. joins-not (runAt xs j) (runAt xs k) (n j k (ltb-true j k l) hk) r d s)
-    (λ l. by-cases (eqb k j)
-    (λ e. let p = eqb-true k j e in let q = long j hj in omega (arith, ap (λ (i : ℕ). runAt xs i .first) p))
-    (λ e. let p = ltb-false j k l in let q = eqb-false k j e in
-    let b = before-first (runAt xs k) (runAt xs j) (order-any xs o k j (omega arith) hj) (sym r) in omega arith))
+    lt-or-le j k (λ l. joins-not (runAt xs j) (runAt xs k) (n j k l hk) r d s)
+    (λ l. lt-or-le k j
+    (λ m. let b = before-first (runAt xs k) (runAt xs j) (order-any xs o k j m hj) (sym r) in omega arith)
+    (λ m. let e : j ≡ k = omega arith in omega (arith, long j hj, ap (λ (i : ℕ). runAt xs i .first) e)))
 
 -- ---- a duty
 
