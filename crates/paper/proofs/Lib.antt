@@ -7,3 +7,5 @@ pub mod Starts
 pub mod Sa1
 pub mod Sa1Shares
 pub mod Sa1Table
+pub mod Rules
+pub mod Accepted
