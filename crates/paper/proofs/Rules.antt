@@ -4,24 +4,21 @@
 -- Assumes nothing.
 use Prim.Native.Nat.{ℕ, zero, suc, _+_, _*_, _-_, _%_, _≤_, _<_, _∣_}
 use mathlib.Core.Path.{_≡_, refl, sym, ap, _∙_}
-use mathlib.Core.Bool.{Bool, true, false, not, _&&_, true≢false}
-use mathlib.Core.List.{List, [], _∷_}
-use native.Mathlib.Nat.{not-suc-le-zero, dvd-of-mod-eq-zero, mod-eq-zero-of-dvd}
-use native.Mathlib.Numerals.{add-one}
+use mathlib.Core.Bool.{Bool, true, false, true≢false}
+use mathlib.Core.List.{List}
+use native.Mathlib.Nat.{dvd-of-mod-eq-zero, mod-eq-zero-of-dvd}
 use native.Mathlib.Omega.{arith}
-use lib.Dec.{leb, ltb, eqb}
+use lib.Dec.{ltb, eqb}
 use lib.ListN.{length}
-use borrow.Author.Tests.{ltb-true, ltb-false, lt-ltb, le-ltb, eqb-true, eqb-false, eq-eqb, ne-eqb, not-true, not-false}
-use Rattle.laws.specs.Choice.{pick}
+use borrow.Author.Tests.{ltb-true, lt-ltb, eqb-true, eqb-false, eq-eqb, ne-eqb, not-false}
 use Rattle.laws.specs.Search.{first, any}
 use Rattle.laws.proofs.Cases.{by-cases, lt-or-le}
 use Rattle.laws.proofs.Search.{Clear, none-clear, clear-none}
 use Rattle.laws.proofs.Lists.{and-left, and-right}
 use Rattle.paper.specs.declared.Duty.{Duty}
 use Rattle.paper.specs.declared.Run.{Run}
-use Rattle.paper.specs.Words.{stop, slice, dutyAt, runAt, whole, Table}
-use Rattle.paper.specs.Builder.{badSlice}
-use Rattle.paper.specs.Rules.{before, meet, unordered, overlaps, joins, twice, lowest, unitsOf, badSum, badOrder}
+use Rattle.paper.specs.Words.{stop, runAt, whole}
+use Rattle.paper.specs.Rules.{before, meet, unordered, overlaps, joins, twice, lowest}
 use Rattle.paper.specs.Statements.{Has, Apart}
 
 -- ---- order
