@@ -1,12 +1,14 @@
 -- Euclid's steps give the greatest common divisor: a step keeps the common divisors, since k divides b and a mod b
 -- exactly when it divides b and a; and b falls, so the steps suffice.
 -- Assumes nothing.
-use Prim.Native.Nat.{ℕ, zero, suc, _+_, _-_, _%_, _<_, _∣_}
+use Prim.Native.Nat.{ℕ, zero, suc, _+_, _-_, _%_, _≤_, _<_, _∣_}
 use mathlib.Core.Path.{_≡_, refl, sym, ap, _∙_}
 use mathlib.Core.List.{List, [], _∷_}
 use native.Mathlib.Nat.{mod-lt, mod-zero, dvd-refl, dvd-zero, dvd-trans, dvd-mod-iff, dvd-antisymm, zero-lt-suc, not-suc-le-zero, le-of-suc-le-suc, pos-of-dvd-of-pos}
 use native.Mathlib.Omega.{arith}
-use lib.ListN.{length, getD}
+use native.Mathlib.Numerals.{add-one}
+use lib.ListN.{length, getD, drop, drop-of-length-le}
+use lib.Seq.{drop-cons}
 use Rattle.laws.specs.Divisor.{euclid, gcd, gcdOf}
 
 -- once there are more steps than b, one more changes nothing
@@ -106,3 +108,14 @@ gcdOf-positive xs k h p = pos-of-dvd-of-pos (gcdOf-divides xs k h) p
 pub gcd-through : (g x : ℕ) (xs : List ℕ) → gcd g (gcdOf (x ∷ xs)) ≡ gcd (gcd g x) (gcdOf xs)
 unfolding gcdOf
 gcd-through g x xs = sym (gcd-assoc g x (gcdOf xs))
+
+pub gcd-start : (b : ℕ) → gcd 0 b ≡ b
+gcd-start b = gcd-comm 0 b ∙ gcd-zero b
+
+-- the same by what is left of the list at index i, and at its end
+pub gcd-further : (g i : ℕ) (xs : List ℕ) → i < length xs → gcd (gcd g (getD xs i 0)) (gcdOf (drop (i + 1) xs)) ≡ gcd g (gcdOf (drop i xs))
+gcd-further g i xs h = rw (add-one, drop-cons xs i 0) (sym (gcd-through g (getD xs i 0) (drop (suc i) xs)))
+
+pub gcd-finished : (g i : ℕ) (xs : List ℕ) → length xs ≤ i → gcd g (gcdOf (drop i xs)) ≡ g
+unfolding gcdOf
+gcd-finished g i xs h = rw (drop-of-length-le xs h) (gcd-zero g)

@@ -166,3 +166,11 @@ stretch a l r =
 -- a stretch of l units from a on, that ends by t, has l of the t units
 pub count-stretch : (t a l : ℕ) → a + l ≤ t → sumTo t (λ u. one-if (leb a u && ltb u (a + l))) ≡ l
 count-stretch t a l h = let p : t ≡ a + (l + (t - (a + l))) = omega arith in rw p (stretch a l (t - (a + l)))
+
+-- of the cells of an m by t table one is the cell (i, j)
+pub count-cell : (m t i j : ℕ) → i < m → j < t → sumTo m (λ r. sumTo t (λ u. one-if (eqb i r && eqb j u))) ≡ 1
+count-cell m t i j h k =
+    sum-only m i (λ r. sumTo t (λ u. one-if (eqb i r && eqb j u))) h
+    (λ r l d. sum-zero t (λ u. one-if (eqb i r && eqb j u)) (λ u n. rw (ne-eqb i r (λ e. d (sym e)))))
+    ∙ sum-only t j (λ u. one-if (eqb i i && eqb j u)) k (λ u n d. rw (eq-eqb i i refl, ne-eqb j u (λ e. d (sym e))))
+    ∙ (rw (eq-eqb i i refl, eq-eqb j j refl))

@@ -2,18 +2,18 @@
 -- Engine e, b blocks on, has the row b places further round its chain: a step goes one place on, and from the last place to the first.
 -- Assumes nothing.
 use Prim.Native.Nat.{ℕ, zero, suc, _+_, _-_, _%_, _≤_, _<_}
-use mathlib.Core.Path.{_≡_, sym, ap, _∙_}
+use mathlib.Core.Path.{_≡_, refl, sym, ap, _∙_}
 use mathlib.Core.Bool.{Bool, true, false, _&&_}
+use mathlib.Core.List.{[], _∷_, _++_, append-nil}
 use native.Mathlib.Nat.{mod-eq-of-lt, add-mod-left, add-mod-mod}
 use native.Mathlib.Omega.{arith}
 use lib.Dec.{leb, ltb, eqb}
 use borrow.Author.Tests.{eq-eqb, ne-eqb, le-leb, lt-leb, lt-ltb, le-ltb}
 use Rattle.laws.specs.Choice.{one-if}
-use Rattle.laws.specs.Sum.{sumTo}
 use Rattle.laws.proofs.Cases.{by-cases, lt-or-le}
 use Rattle.laws.proofs.Sum.{sum-ext, count-stretch}
 use Rattle.paper.specs.Words.{engine}
-use Rattle.paper.specs.Rotation.{firstOf, nextOf, rowAt, chainLength}
+use Rattle.paper.specs.Rotation.{firstOf, nextOf, rowAt, chainLength, chainsBelow}
 use Rattle.paper.proofs.Rotation.{not-both, first-linked, first-least, first-twice, first-links, first-past, next-linked, next-last}
 
 -- row e is in the chain that goes from the row `from` to the row `to`
@@ -85,6 +85,15 @@ module _ (c : ℕ → Bool) where
   chain-below m s {e} {from} {to} i h =
       lt-or-le to m (λ l. l) (λ l. absurd (omega (arith, chain-first (chain-other m i (omega arith) l))))
 
+  -- below a row that begins a chain every row's chain has a last row
+  pub chain-exists : (m : ℕ) → firstOf c m ≡ m → (e : ℕ) → e < m → (to : ℕ) × InChain c e (firstOf c e) to
+  chain-exists m s e h = go (m - e) e (omega arith) (omega arith) refl
+    where
+      go : (n d : ℕ) → d + n ≡ m → e ≤ d → firstOf c d ≡ firstOf c e → (to : ℕ) × InChain c e (firstOf c e) to
+      go zero d p l q = let z : d ≡ m = omega arith in absurd (omega (arith, ap (firstOf c) z, first-least c e))
+      go (suc n) d p l q =
+          by-cases (c d) (λ y. go n (suc d) (omega arith) (omega arith) (first-linked c d y ∙ q)) (λ y. (d, in-chain l q y))
+
   -- a row has the chain's first row exactly where it is between the chain's ends
   between : {e from to : ℕ} → InChain c e from to → (k : ℕ) → eqb (firstOf c k) from ≡ leb from k && ltb k (from + (to + 1 - from))
   between {e} {from} {to} i k =
@@ -100,3 +109,28 @@ module _ (c : ℕ → Bool) where
   chain-length m {e} {from} {to} i h =
       sum-ext m (λ k. one-if (eqb (firstOf c k) from)) (λ k. one-if (leb from k && ltb k (from + (to + 1 - from)))) (λ k l. ap one-if (between i k))
       ∙ count-stretch m from (to + 1 - from) (omega arith)
+
+  -- ---- the list of chains
+
+  -- a row that begins a chain adds it, another row adds nothing
+  chains-begin : (m k : ℕ) → firstOf c k ≡ k → chainsBelow c m (suc k) ≡ chainsBelow c m k ++ (record { first = k; length = chainLength c m k } ∷ [])
+  unfolding chainsBelow
+  chains-begin m k h = rw (eq-eqb (firstOf c k) k h)
+
+  chains-go : (m k : ℕ) → (firstOf c k ≡ k → ⊥) → chainsBelow c m (suc k) ≡ chainsBelow c m k
+  unfolding chainsBelow
+  chains-go m k h = rw (ne-eqb (firstOf c k) k h) (append-nil (chainsBelow c m k))
+
+  -- for code that goes from chain to chain: past the last row of a chain, the list has that chain more than at its first
+  pub chains-more : (m : ℕ) {from to : ℕ} → InChain c from from to → to < m
+      → chainsBelow c m (to + 1) ≡ chainsBelow c m from ++ (record { first = from; length = to + 1 - from } ∷ [])
+  chains-more m {from} {to} i h =
+      let z : to + 1 ≡ suc (from + (to - from)) = omega arith in
+      rw z (along (to - from) (omega arith) ∙ chains-begin m from (i .begins))
+      ∙ ap (λ n. chainsBelow c m from ++ (record { first = from; length = n } ∷ [])) (chain-length m i h)
+    where
+      along : (n : ℕ) → from + n ≤ to → chainsBelow c m (suc (from + n)) ≡ chainsBelow c m (suc from)
+      along zero l = ap (λ k. chainsBelow c m (suc k)) (omega arith)
+      along (suc n) l =
+          let z : from + suc n ≡ suc (from + n) = omega arith in
+          rw z (chains-go m (suc (from + n)) (λ e. omega (arith, chain-first (chain-other (suc (from + n)) i (omega arith) (omega arith)))) ∙ along n (omega arith))

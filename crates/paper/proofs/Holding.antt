@@ -1,58 +1,137 @@
--- Who holds a unit of a row. The first run that covers the unit gives its duty; where the runs of a row are apart there is no other, so the
--- order of the runs does not matter.
+-- Who holds a unit, by the runs: a run that covers it, and the run's duty.
+-- `heldIn` stops at the first run that covers the unit. Where no two runs of a row share a unit, any run that covers it is that one.
 -- Assumes nothing.
-use Prim.Native.Nat.{ℕ, suc, _<_}
+use Prim.Native.Nat.{ℕ, zero, suc, _+_, _≤_, _<_}
 use mathlib.Core.Path.{_≡_, refl, sym, _∙_}
-use mathlib.Core.Bool.{true, false, _&&_}
+use mathlib.Core.Bool.{Bool, true, false, _&&_}
 use mathlib.Core.List.{List, [], _∷_}
+use native.Mathlib.Nat.{not-suc-le-zero, le-of-suc-le-suc}
+use native.Mathlib.Numerals.{add-one}
 use native.Mathlib.Omega.{arith}
 use lib.Dec.{leb, ltb, eqb, leb·suc-suc}
-use lib.ListN.{length}
-use borrow.Author.Tests.{ltb-true, lt-ltb, leb-true, le-leb, eqb-true, eq-eqb, ne-eqb}
+use lib.ListN.{length, drop, drop-of-length-le}
+use lib.Seq.{drop-cons}
+use borrow.Author.Tests.{eqb-true, eqb-false, ne-eqb, leb-true, ltb-true, eq-eqb, le-leb, lt-ltb}
 use Rattle.laws.specs.Choice.{pick}
 use Rattle.laws.specs.Search.{first}
-use Rattle.laws.proofs.Cases.{by-cases}
-use Rattle.laws.proofs.Search.{none-clear, clear-none, first-is, first-holds}
-use Rattle.laws.proofs.Lists.{and-left, and-right}
+use Rattle.laws.proofs.Cases.{by-cases, lt-or-le}
 use Rattle.paper.specs.declared.Row.{Row}
 use Rattle.paper.specs.declared.Run.{Run}
+use Rattle.paper.specs.declared.Held.{Held}
 use Rattle.paper.specs.declared.Held.the-variants.{Idle, By}
-use Rattle.paper.specs.Words.{row, stop, covers, runAt, heldIn}
+use Rattle.paper.specs.Words.{run, stop, covers, runAt, heldIn, same}
 use Rattle.paper.specs.Statements.{Has, Apart}
+use Rattle.paper.proofs.Rotation.{not-both}
 
--- ---- one run
+-- both tests hold where both together do
+pub both-true : (a b : Bool) → a && b ≡ true → (a ≡ true) × (b ≡ true)
+both-true true b p = (refl, p)
+both-true false b p = not-both p refl
 
--- a run covers a unit of a row exactly when it is on the row and has the unit
-pub covers-has : (x : Run) (r : Row) (u : ℕ) → covers x r u ≡ true → (x .row .0 ≡ r .0) × Has x u
+-- a run covers a unit of a row where it is of the row and has the unit
+pub covers-row : (x : Run) (r : Row) (u : ℕ) → covers x r u ≡ true → x .row .0 ≡ r .0
 unfolding covers
-covers-has x r u h =
-    let a = eqb (x .row .0) (r .0) in
-    let b = leb (x .first) u in
-    let c = ltb u (stop x) in
-    let ab = and-left (a && b) c h in
-    (eqb-true (x .row .0) (r .0) (and-left a b ab), (leb-true (x .first) u (and-right a b ab), ltb-true u (stop x) (and-right (a && b) c h)))
+covers-row x r u p = eqb-true (x .row .0) (r .0) (both-true (eqb (x .row .0) (r .0)) (leb (x .first) u) (both-true _ (ltb u (stop x)) p .0) .0)
+
+pub covers-has : (x : Run) (r : Row) (u : ℕ) → covers x r u ≡ true → Has x u
+unfolding covers
+covers-has x r u p =
+    let q = both-true (eqb (x .row .0) (r .0) && leb (x .first) u) (ltb u (stop x)) p in
+    (leb-true (x .first) u (both-true (eqb (x .row .0) (r .0)) (leb (x .first) u) (q .0) .1), ltb-true u (stop x) (q .1))
 
 pub has-covers : (x : Run) (r : Row) (u : ℕ) → x .row .0 ≡ r .0 → Has x u → covers x r u ≡ true
 unfolding covers
 has-covers x r u e h = rw (eq-eqb (x .row .0) (r .0) e, le-leb (x .first) u (h .0), lt-ltb u (stop x) (h .1))
 
--- a run covers nothing on another row
-pub covers-not : (x : Run) (r : Row) (u : ℕ) → (x .row .0 ≡ r .0 → ⊥) → covers x r u ≡ false
-unfolding covers
-covers-not x r u n = rw (ne-eqb (x .row .0) (r .0) n)
-
--- ---- the run that holds a unit
-
--- the search of a list, by its first run
+-- one step of the search for the run
 pub held-yes : (x : Run) (xs : List Run) (r : Row) (u : ℕ) → covers x r u ≡ true → heldIn (x ∷ xs) r u ≡ By (x .duty)
 unfolding heldIn
-held-yes x xs r u h = rw h
+held-yes x xs r u p = rw p
 
 pub held-no : (x : Run) (xs : List Run) (r : Row) (u : ℕ) → covers x r u ≡ false → heldIn (x ∷ xs) r u ≡ heldIn xs r u
 unfolding heldIn
-held-no x xs r u h = rw h
+held-no x xs r u p = rw p
 
--- the same by index: "stops at the first that does"
+-- run k of the list covers the unit
+pub record Covering (xs : List Run) (r : Row) (u k : ℕ) : Type 0 where
+  pub below : k < length xs
+  pub covering : covers (runAt xs k) r u ≡ true
+
+-- a unit is idle, and then no run covers it, or a run covers it and its duty holds it
+pub held-cases : {P : Type 0} (xs : List Run) (r : Row) (u : ℕ)
+    → (heldIn xs r u ≡ Idle → ((k : ℕ) → Covering xs r u k → ⊥) → P)
+    → ((k : ℕ) → Covering xs r u k → heldIn xs r u ≡ By (runAt xs k .duty) → P) → P
+unfolding heldIn
+held-cases [] r u idle by = idle refl (λ k c. not-suc-le-zero (c .below))
+held-cases (x ∷ xs) r u idle by =
+    by-cases (covers x r u)
+    (λ p. by 0 (record { below = omega arith; covering = p }) (held-yes x xs r u p))
+    (λ p. held-cases xs r u
+    (λ e n. idle (held-no x xs r u p ∙ e) (λ k c. go p n k (c .below) (c .covering)))
+    (λ k c e. by (suc k) (record { below = omega arith; covering = c .covering }) (held-no x xs r u p ∙ e)))
+  where
+    go : covers x r u ≡ false → ((k : ℕ) → Covering xs r u k → ⊥) → (k : ℕ) → k < length (x ∷ xs) → covers (runAt (x ∷ xs) k) r u ≡ true → ⊥
+    go p n zero l q = not-both q p
+    go p n (suc k) l q = n k (record { below = le-of-suc-le-suc l; covering = q })
+
+-- no two runs of one row share a unit
+abbrev pub RowsApart : List Run → Type 0
+RowsApart xs = (j k : ℕ) → j < k → k < length xs → runAt xs j .row .0 ≡ runAt xs k .row .0 → Apart (runAt xs j) (runAt xs k)
+
+-- then a unit has one run at most
+pub covering-one : (xs : List Run) (r : Row) (u : ℕ) → RowsApart xs → (j k : ℕ) → Covering xs r u j → Covering xs r u k → j ≡ k
+covering-one xs r u a j k c d =
+    lt-or-le j k (λ l. absurd (apart j k l c d)) (λ l. lt-or-le k j (λ m. absurd (apart k j m d c)) (λ m. omega arith))
+  where
+    apart : (j k : ℕ) → j < k → Covering xs r u j → Covering xs r u k → ⊥
+    apart j k l c d =
+        a j k l (d .below) (covers-row (runAt xs j) r u (c .covering) ∙ sym (covers-row (runAt xs k) r u (d .covering))) u
+        (covers-has (runAt xs j) r u (c .covering)) (covers-has (runAt xs k) r u (d .covering))
+
+-- and the duty of any run that covers a unit holds it
+pub held-by : (xs : List Run) (r : Row) (u : ℕ) → RowsApart xs → (k : ℕ) → Covering xs r u k → heldIn xs r u ≡ By (runAt xs k .duty)
+held-by xs r u a k c =
+    held-cases xs r u (λ e n. absurd (n k c)) (λ j d e. rw (covering-one xs r u a k j c d) e)
+
+-- a row that no run is on is idle
+pub held-none : (xs : List Run) (r : Row) (u : ℕ) → ((k : ℕ) → k < length xs → runAt xs k .row .0 ≡ r .0 → ⊥) → heldIn xs r u ≡ Idle
+held-none xs r u n =
+    held-cases xs r u (λ e h. e) (λ k c e. absurd (n k (c .below) (covers-row (runAt xs k) r u (c .covering))))
+
+-- nothing is one with idle
+pub same-idle : (h : Held) → same h Idle ≡ false
+unfolding same
+same-idle Idle = refl
+same-idle (By i) = refl
+
+-- the order of an equation does not matter
+eqb-sym : (i j : ℕ) → eqb i j ≡ eqb j i
+eqb-sym i j =
+    by-cases (eqb i j) (λ p. p ∙ sym (eq-eqb j i (sym (eqb-true i j p)))) (λ p. p ∙ sym (ne-eqb j i (λ q. eqb-false i j p (sym q))))
+
+-- one duty holds both in either order
+pub same-sym : (g h : Held) → same g h ≡ same h g
+unfolding same
+same-sym Idle Idle = refl
+same-sym Idle (By j) = refl
+same-sym (By i) Idle = refl
+same-sym (By i) (By j) = eqb-sym i j
+
+-- ---- for a loop over the runs: what the runs from k on hold
+
+pub held-from-yes : (xs : List Run) (r : Row) (u k : ℕ) → k < length xs → covers (runAt xs k) r u ≡ true → heldIn (drop k xs) r u ≡ By (runAt xs k .duty)
+held-from-yes xs r u k h p = rw (drop-cons xs k (run 0 0 0 0) h) (held-yes (runAt xs k) (drop (suc k) xs) r u p)
+
+pub held-from-no : (xs : List Run) (r : Row) (u k : ℕ) → k < length xs → covers (runAt xs k) r u ≡ false → heldIn (drop k xs) r u ≡ heldIn (drop (k + 1) xs) r u
+held-from-no xs r u k h p = rw (add-one k, drop-cons xs k (run 0 0 0 0) h) (held-no (runAt xs k) (drop (suc k) xs) r u p)
+
+pub held-from-end : (xs : List Run) (r : Row) (u k : ℕ) → length xs ≤ k → heldIn (drop k xs) r u ≡ Idle
+unfolding heldIn
+held-from-end xs r u k h = rw (drop-of-length-le xs h)
+
+-- ---- the run that is found, by its index
+
+-- "stops at the first that does": the duty of the least run that covers the unit
 pub held-by-search : (xs : List Run) (r : Row) (u : ℕ) → heldIn xs r u ≡ pick (ltb (first (λ j. covers (runAt xs j) r u) (length xs)) (length xs)) (By (runAt xs (first (λ j. covers (runAt xs j) r u) (length xs)) .duty)) Idle
 unfolding heldIn first
 held-by-search [] r u = refl
@@ -60,51 +139,20 @@ held-by-search (x ∷ xs) r u =
     by-cases (covers x r u) (λ h. rw (h, first, lt-ltb 0 (suc (length xs)) (omega arith)))
     (λ h. rw (h, first, leb·suc-suc (suc (first (λ j. covers (runAt xs j) r u) (length xs))) (length xs)) (held-by-search xs r u))
 
--- idle is no duty, and two duties that hold the same are the same
-idle-not : {i : ℕ} → Idle ≡ By i → ⊥
-idle-not e = let z : _≡_ {A = ℕ} 0 1 = cc in omega arith
-
-same-duty : {i j : ℕ} → By i ≡ By j → i ≡ j
-same-duty e = cc
-
--- no run covers it: idle, and the converse
+-- where no run covers it the unit is idle, and the converse
 pub held-idle : (xs : List Run) (r : Row) (u : ℕ) → ((k : ℕ) → k < length xs → covers (runAt xs k) r u ≡ false) → heldIn xs r u ≡ Idle
-held-idle xs r u c = rw (held-by-search xs r u, clear-none (λ j. covers (runAt xs j) r u) (length xs) c)
+held-idle xs r u n = held-cases xs r u (λ e h. e) (λ k c e. not-both (c .covering) (n k (c .below)))
 
-pub idle-held : (xs : List Run) (r : Row) (u : ℕ) → heldIn xs r u ≡ Idle → (k : ℕ) → k < length xs → covers (runAt xs k) r u ≡ false
-idle-held xs r u h =
-    by-cases (ltb (first (λ j. covers (runAt xs j) r u) (length xs)) (length xs))
-    (λ p. absurd (idle-not (sym h ∙ (rw p at (held-by-search xs r u)))))
-    (λ p. none-clear (λ j. covers (runAt xs j) r u) (length xs) p)
+pub idle-clear : (xs : List Run) (r : Row) (u : ℕ) → heldIn xs r u ≡ Idle → (k : ℕ) → k < length xs → covers (runAt xs k) r u ≡ false
+idle-clear xs r u h k l =
+    by-cases (covers (runAt xs k) r u) (λ p. held-cases xs r u (λ e n. absurd (n k (record { below = l; covering = p }))) (λ j c e. (cc))) (λ p. p)
 
--- a duty holds it: one of its runs covers it
-pub held-some : (xs : List Run) (r : Row) (u i : ℕ) → heldIn xs r u ≡ By i → (k : ℕ) × (k < length xs) × (covers (runAt xs k) r u ≡ true) × (runAt xs k .duty ≡ i)
-held-some xs r u i h =
-    let k = first (λ j. covers (runAt xs j) r u) (length xs) in
-    by-cases (ltb k (length xs))
-    (λ p. let l = ltb-true k (length xs) p in
-    (k, l, first-holds (λ j. covers (runAt xs j) r u) (length xs) l, same-duty (sym (rw p at (held-by-search xs r u)) ∙ h)))
-    (λ p. absurd (idle-not (sym (rw p at (held-by-search xs r u)) ∙ h)))
+-- where a duty holds it one of the duty's runs covers it
+pub held-some : (xs : List Run) (r : Row) (u i : ℕ) → heldIn xs r u ≡ By i → (k : ℕ) × Covering xs r u k × (runAt xs k .duty ≡ i)
+held-some xs r u i h = held-cases xs r u (λ e n. absurd (not-idle (sym e ∙ h))) (λ k c e. (k, c, same-duty (sym e ∙ h)))
+  where
+    not-idle : Idle ≡ By i → ⊥
+    not-idle e = let z : _≡_ {A = ℕ} 0 1 = cc in omega arith
 
--- ---- runs apart
-
--- the runs of each row are apart (14)
-abbrev pub ApartInRow : List Run → Type 0
-ApartInRow xs = (j k : ℕ) → j < k → k < length xs → runAt xs j .row .0 ≡ runAt xs k .row .0 → Apart (runAt xs j) (runAt xs k)
-
--- the runs of each duty are apart (14 and 16)
-abbrev pub ApartOfDuty : List Run → Type 0
-ApartOfDuty xs = (j k : ℕ) → j < k → k < length xs → runAt xs j .duty ≡ runAt xs k .duty → Apart (runAt xs j) (runAt xs k)
-
--- an earlier and a later run of runs apart do not both cover a unit
-pub covers-one : (xs : List Run) → ApartInRow xs → (r : Row) (u j k : ℕ) → j < k → k < length xs → covers (runAt xs j) r u ≡ true → covers (runAt xs k) r u ≡ true → ⊥
-covers-one xs a r u j k l h p q =
-    let x = covers-has (runAt xs j) r u p in
-    let y = covers-has (runAt xs k) r u q in
-    a j k l h (x .0 ∙ sym (y .0)) u (x .1) (y .1)
-
--- so any run that covers the unit is the one that holds it
-pub held-is : (xs : List Run) → ApartInRow xs → (r : Row) (u k : ℕ) → k < length xs → covers (runAt xs k) r u ≡ true → heldIn xs r u ≡ By (runAt xs k .duty)
-held-is xs a r u k h p =
-    let e = first-is (λ j. covers (runAt xs j) r u) (length xs) k h (λ j l. by-cases (covers (runAt xs j) r u) (λ q. absurd (covers-one xs a r u j k l h q p)) (λ q. q)) p in
-    rw (held-by-search xs r u, e, lt-ltb k (length xs) h)
+    same-duty : {a b : ℕ} → By a ≡ By b → a ≡ b
+    same-duty e = cc

@@ -1,7 +1,13 @@
 pub mod Rotation
 pub mod Chains
+pub mod Holding
+pub mod Links
+pub mod Loads
+pub mod Starts
+pub mod Sa1
+pub mod Sa1Shares
+pub mod Sa1Table
 pub mod Rules
 pub mod Accepted
-pub mod Holding
 pub mod Units
 pub mod Service

@@ -6,7 +6,7 @@
 use Prim.Native.Nat.{ℕ, _+_, _*_, _-_, _/_, _%_, _≤_, _<_, _∣_}
 use mathlib.Core.Path.{_≡_, refl, sym, ap, _∙_}
 use mathlib.Core.Bool.{false}
-use native.Mathlib.Nat.{le-antisymm, mul-div-cancel', div-mul-cancel, mul-assoc, mul-comm, eq-of-mul-eq-mul-left}
+use native.Mathlib.Nat.{mul-div-cancel', div-mul-cancel, mul-assoc, mul-comm, eq-of-mul-eq-mul-left}
 use native.Mathlib.Omega.{arith}
 use lib.Arith.{digits-mod}
 use lib.Dec.{eqb}
@@ -14,7 +14,7 @@ use lib.ListN.{length}
 use borrow.Author.Tests.{eqb-true, eqb-false}
 use Rattle.laws.specs.Choice.{one-if}
 use Rattle.laws.specs.Sum.{sumTo}
-use Rattle.laws.proofs.Cases.{by-cases, lt-or-le}
+use Rattle.laws.proofs.Cases.{by-cases}
 use Rattle.laws.proofs.Sum.{sum-ext, sum-const, sum-blocks}
 use Rattle.paper.specs.declared.Duty.{Duty}
 use Rattle.paper.specs.declared.Held.{Held}
@@ -25,26 +25,25 @@ use Rattle.paper.specs.Schedule.{walk, given, served}
 use Rattle.paper.specs.Bytes.{Width}
 use Rattle.paper.specs.Rules.{unitsOf}
 use Rattle.paper.specs.Statements.{Ranged, Meets}
-use Rattle.paper.proofs.Rotation.{begins, row-sum, row-one}
+use Rattle.paper.proofs.Rotation.{row-sum, row-one}
 use Rattle.paper.proofs.Accepted.{ticks-divides}
-use Rattle.paper.proofs.Holding.{ApartInRow, ApartOfDuty, covers-has, held-some}
-use Rattle.paper.proofs.Units.{RowsBelow, Inside, onUnit, held-past, rows-unit, units-block, unit-once}
+use Rattle.paper.proofs.Holding.{RowsApart}
+use Rattle.paper.proofs.Links.{Closed, closed, rows-end}
+use Rattle.paper.proofs.Units.{RowsBelow, Inside, DutiesApart, onUnit, rows-unit, units-block, unit-once, one-row}
 
 -- the runs lie in the rows and the units of a block and are apart: what service and exclusion need of a table
 pub record Laid (t : Table) : Type 0 where
-  pub some-ticks : 0 < t .ticks
-  pub some-engines : 0 < t .engines
+  pub closed : Closed t
   pub rows-below : RowsBelow (t .engines) (t .runs)
   pub inside : Inside (t .ticks) (t .runs)
-  pub apart-in-row : ApartInRow (t .runs)
-  pub apart-of-duty : ApartOfDuty (t .runs)
+  pub apart-in-row : RowsApart (t .runs)
+  pub apart-of-duty : DutiesApart (t .runs)
 
 -- 14 and 16 together: the runs of a duty are apart, on one row or on two
 pub meets-laid : {w : Width} {t : Table} → Ranged w t → Meets t → Laid t
 meets-laid {w} {t} r m =
     record {
-      some-ticks = r .ticks-least;
-      some-engines = r .engines-least;
+      closed = closed w t r;
       rows-below = λ k h. r .run-ranged k h .row-below;
       inside = λ k h. r .run-ranged k h .inside;
       apart-in-row = m .apart-in-row;
@@ -54,24 +53,10 @@ meets-laid {w} {t} r m =
           (λ e. m .apart-of-duty j k l h d (eqb-false (runAt (t .runs) j .row .0) (runAt (t .runs) k .row .0) e));
     }
 
--- nothing is chained past the last row
-same-none : (h : Held) → same h Idle ≡ false
-unfolding same
-same-none Idle = refl
-same-none (By i) = refl
-
-pub link-last : (t : Table) → 0 < t .engines → RowsBelow (t .engines) (t .runs) → link t (t .engines - 1) ≡ false
-unfolding link
-link-last t h below = rw (held-past (t .engines) (t .runs) below (t .engines - 1 + 1) 0 (omega arith)) (same-none _)
-
--- so the row after the last begins a chain
-pub engines-begin : (t : Table) → Laid t → firstOf (link t) (t .engines) ≡ t .engines
-engines-begin t l = begins (link t) (t .engines) (l .some-engines) (link-last t (l .some-engines) (l .rows-below))
-
 -- on a unit of any block a duty runs on as many engines as it has runs there
 pub engines-unit : (t : Table) → Laid t → (i b u : ℕ) → sumTo (t .engines) (λ e. one-if (same (heldIn (t .runs) (rowAt (link t) b (engine e)) u) (By i))) ≡ onUnit (t .runs) i u
 engines-unit t l i b u =
-    row-sum (link t) (t .engines) (engines-begin t l) b (λ r. one-if (same (heldIn (t .runs) (row r) u) (By i)))
+    row-sum (link t) (t .engines) (rows-end t (l .closed)) b (λ r. one-if (same (heldIn (t .runs) (row r) u) (By i)))
     ∙ rows-unit (t .engines) (t .runs) (l .apart-in-row) (l .rows-below) i u
 
 -- .. and in the whole block on as many units as its runs have
@@ -94,14 +79,7 @@ pub one-engine : (t : Table) → Laid t → (i k e d : ℕ) → walk t (engine e
 unfolding walk
 one-engine t l i k e d p q =
     let b = k / t .ticks in
-    let u = k % t .ticks in
-    let x = held-some (t .runs) (rowAt (link t) b (engine e)) u i p in
-    let y = held-some (t .runs) (rowAt (link t) b (engine d)) u i q in
-    let f = covers-has (runAt (t .runs) (x .0)) (rowAt (link t) b (engine e)) u (x .2) in
-    let g = covers-has (runAt (t .runs) (y .0)) (rowAt (link t) b (engine d)) u (y .2) in
-    lt-or-le (x .0) (y .0) (λ h. absurd (l .apart-of-duty (x .0) (y .0) h (y .1) (x .3 ∙ sym (y .3)) u (f .1) (g .1)))
-    (λ h. lt-or-le (y .0) (x .0) (λ h. absurd (l .apart-of-duty (y .0) (x .0) h (x .1) (y .3 ∙ sym (x .3)) u (g .1) (f .1)))
-    (λ n. row-one (link t) b e d (sym (f .0) ∙ ap (λ (j : ℕ). runAt (t .runs) j .row .0) (le-antisymm n h) ∙ g .0)))
+    row-one (link t) b e d (one-row (t .runs) (l .apart-of-duty) (rowAt (link t) b (engine e)) (rowAt (link t) b (engine d)) (k % t .ticks) i p q)
 
 -- service over n whole blocks from block b on: n times the units of the duty's runs
 pub served-blocks : (t : Table) → Laid t → (i b n : ℕ) → served (t .engines) (walk t) i (b * t .ticks) (n * t .ticks) ≡ n * unitsOf (t .runs) i
@@ -143,7 +121,7 @@ job-blocks t l i x d w s q =
     ∙ ap (λ (y : ℕ). served (t .engines) (walk t) i (q * n * t .ticks) y) (sym e)
     ∙ served-blocks t l i (q * n) n
     ∙ ap (λ (y : ℕ). n * y) s
-    ∙ slices-service (t .ticks) x (l .some-ticks) d w
+    ∙ slices-service (t .ticks) x (l .closed .some-tick) d w
 
 -- ---- accepted tables
 

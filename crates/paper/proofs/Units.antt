@@ -3,24 +3,26 @@
 -- where the runs of a duty are apart it is at most one.
 -- Assumes nothing.
 use Prim.Native.Nat.{ℕ, zero, suc, _+_, _≤_, _<_}
-use mathlib.Core.Path.{_≡_, refl, sym, _∙_}
+use mathlib.Core.Path.{_≡_, refl, sym, ap, _∙_}
 use mathlib.Core.Bool.{Bool, true, false, _&&_}
 use mathlib.Core.List.{List, [], _∷_}
+use native.Mathlib.Nat.{le-antisymm}
 use native.Mathlib.Omega.{arith}
 use lib.Dec.{leb, ltb, eqb}
 use lib.ListN.{length}
 use borrow.Author.Tests.{ltb-true, leb-true, eqb-true, eq-eqb, ne-eqb}
 use Rattle.laws.specs.Choice.{pick, one-if}
 use Rattle.laws.specs.Sum.{sumTo}
-use Rattle.laws.proofs.Cases.{by-cases}
+use Rattle.laws.proofs.Cases.{by-cases, lt-or-le}
 use Rattle.laws.proofs.Lists.{and-left, and-right}
 use Rattle.laws.proofs.Sum.{sum-ext, sum-plus, sum-zero, sum-only, count-stretch}
+use Rattle.paper.specs.declared.Row.{Row}
 use Rattle.paper.specs.declared.Run.{Run}
 use Rattle.paper.specs.declared.Held.the-variants.{Idle, By}
 use Rattle.paper.specs.Words.{row, stop, covers, runAt, heldIn, same}
 use Rattle.paper.specs.Rules.{unitsOf}
-use Rattle.paper.specs.Statements.{Has}
-use Rattle.paper.proofs.Holding.{ApartInRow, ApartOfDuty, covers-has, covers-not, held-yes, held-no, held-idle}
+use Rattle.paper.specs.Statements.{Has, Apart}
+use Rattle.paper.proofs.Holding.{RowsApart, Covering, covers-row, covers-has, held-yes, held-no, held-idle, held-some}
 
 -- run x is duty i's and has the unit u
 abbrev pub serves : Run → ℕ → ℕ → Bool
@@ -31,6 +33,10 @@ unfoldable pub onUnit : List Run → ℕ → ℕ → ℕ
 onUnit [] i u = zero
 onUnit (x ∷ xs) i u = one-if (serves x i u) + onUnit xs i u
 
+-- no two runs of one duty share a unit
+abbrev pub DutiesApart : List Run → Type 0
+DutiesApart xs = (j k : ℕ) → j < k → k < length xs → runAt xs j .duty ≡ runAt xs k .duty → Apart (runAt xs j) (runAt xs k)
+
 -- every run's row is one of m
 abbrev pub RowsBelow : ℕ → List Run → Type 0
 RowsBelow m xs = (k : ℕ) → k < length xs → runAt xs k .row .0 < m
@@ -40,18 +46,13 @@ abbrev pub Inside : ℕ → List Run → Type 0
 Inside t xs = (k : ℕ) → k < length xs → stop (runAt xs k) ≤ t
 
 -- idle is held by no duty
-same-idle : (i : ℕ) → same Idle (By i) ≡ false
+idle-same : (i : ℕ) → same Idle (By i) ≡ false
 unfolding same
-same-idle i = refl
+idle-same i = refl
 
 pub same-by : (i j : ℕ) → same (By i) (By j) ≡ eqb i j
 unfolding same
 same-by i j = refl
-
--- past the last row all is idle
-pub held-past : (m : ℕ) (xs : List Run) → RowsBelow m xs → (r u : ℕ) → m ≤ r → heldIn xs (row r) u ≡ Idle
-held-past m xs below r u h =
-    held-idle xs (row r) u (λ k l. covers-not (runAt xs k) (row r) u (λ e. omega (arith, below k l)))
 
 -- ---- one run
 
@@ -83,25 +84,23 @@ counts-units t x i h =
 -- ---- all runs
 
 -- one run more adds where it covers, since no later run of its row covers there too
-same-more : (x : Run) (xs : List Run) → ApartInRow (x ∷ xs) → (i r u : ℕ) → one-if (same (heldIn (x ∷ xs) (row r) u) (By i)) ≡ counts x i r u + one-if (same (heldIn xs (row r) u) (By i))
+same-more : (x : Run) (xs : List Run) → RowsApart (x ∷ xs) → (i r u : ℕ) → one-if (same (heldIn (x ∷ xs) (row r) u) (By i)) ≡ counts x i r u + one-if (same (heldIn xs (row r) u) (By i))
 same-more x xs a i r u =
     by-cases (covers x (row r) u)
-    (λ h. let c = covers-has x (row r) u h in
-    let idle = held-idle xs (row r) u (λ k l. covers-none k l c) in
-    rw (held-yes x xs (row r) u h, idle, same-by (x .duty) i, same-idle i, h, and-yes (eqb (x .duty) i)) (omega arith))
+    (λ h. let idle = held-idle xs (row r) u (λ k l. covers-none h k l) in
+    rw (held-yes x xs (row r) u h, idle, same-by (x .duty) i, idle-same i, h, and-yes (eqb (x .duty) i)) (omega arith))
     (λ h. rw (held-no x xs (row r) u h, h, and-no (eqb (x .duty) i)) (omega arith))
   where
-    covers-none : (k : ℕ) → k < length xs → (x .row .0 ≡ r) × Has x u → covers (runAt xs k) (row r) u ≡ false
-    covers-none k l c =
+    covers-none : covers x (row r) u ≡ true → (k : ℕ) → k < length xs → covers (runAt xs k) (row r) u ≡ false
+    covers-none h k l =
         by-cases (covers (runAt xs k) (row r) u)
-        (λ q. let d = covers-has (runAt xs k) (row r) u q in
-        absurd (a 0 (suc k) (omega arith) (omega arith) (c .0 ∙ sym (d .0)) u (c .1) (d .1)))
+        (λ q. absurd (a 0 (suc k) (omega arith) (omega arith) (covers-row x (row r) u h ∙ sym (covers-row (runAt xs k) (row r) u q)) u (covers-has x (row r) u h) (covers-has (runAt xs k) (row r) u q)))
         (λ q. q)
 
 -- on each unit a duty holds as many rows as it has runs there
-pub rows-unit : (m : ℕ) (xs : List Run) → ApartInRow xs → RowsBelow m xs → (i u : ℕ) → sumTo m (λ r. one-if (same (heldIn xs (row r) u) (By i))) ≡ onUnit xs i u
+pub rows-unit : (m : ℕ) (xs : List Run) → RowsApart xs → RowsBelow m xs → (i u : ℕ) → sumTo m (λ r. one-if (same (heldIn xs (row r) u) (By i))) ≡ onUnit xs i u
 unfolding onUnit heldIn
-rows-unit m [] a below i u = sum-zero m (λ r. one-if (same Idle (By i))) (λ r l. rw (same-idle i))
+rows-unit m [] a below i u = sum-zero m (λ r. one-if (same Idle (By i))) (λ r l. rw (idle-same i))
 rows-unit m (x ∷ xs) a below i u =
     sum-ext m (λ r. one-if (same (heldIn (x ∷ xs) (row r) u) (By i))) (λ r. counts x i r u + one-if (same (heldIn xs (row r) u) (By i))) (λ r l. same-more x xs a i r u)
     ∙ sum-plus m (λ r. counts x i r u) (λ r. one-if (same (heldIn xs (row r) u) (By i)))
@@ -132,7 +131,7 @@ serves-has x i u h =
     (eqb-true (x .duty) i (and-left a (b && c) h), (leb-true (x .first) u (and-left b c bc), ltb-true u (stop x) (and-right b c bc)))
 
 -- where a duty's runs are apart, at most one has the unit
-pub unit-once : (xs : List Run) → ApartOfDuty xs → (i u : ℕ) → onUnit xs i u ≤ 1
+pub unit-once : (xs : List Run) → DutiesApart xs → (i u : ℕ) → onUnit xs i u ≤ 1
 unfolding onUnit
 unit-once [] a i u = omega arith
 unit-once (x ∷ xs) a i u =
@@ -147,3 +146,18 @@ unit-once (x ∷ xs) a i u =
         (λ q. let d = serves-has (runAt xs k) i u q in
         absurd (a 0 (suc k) (omega arith) (omega arith) (c .0 ∙ sym (d .0)) u (c .1) (d .1)))
         (λ q. q)
+
+-- .. so a duty holds a unit on one row only
+pub one-row : (xs : List Run) → DutiesApart xs → (r s : Row) (u i : ℕ) → heldIn xs r u ≡ By i → heldIn xs s u ≡ By i → r .0 ≡ s .0
+one-row xs a r s u i p q =
+    let x = held-some xs r u i p in
+    let y = held-some xs s u i q in
+    go (x .0) (y .0) (x .1) (y .1) (x .2 ∙ sym (y .2))
+  where
+    go : (j k : ℕ) → Covering xs r u j → Covering xs s u k → runAt xs j .duty ≡ runAt xs k .duty → r .0 ≡ s .0
+    go j k c d e =
+        let f = covers-has (runAt xs j) r u (c .covering) in
+        let g = covers-has (runAt xs k) s u (d .covering) in
+        lt-or-le j k (λ l. absurd (a j k l (d .below) e u f g))
+        (λ l. lt-or-le k j (λ m. absurd (a k j m (c .below) (sym e) u g f))
+        (λ m. sym (covers-row (runAt xs j) r u (c .covering)) ∙ ap (λ (n : ℕ). runAt xs n .row .0) (le-antisymm m l) ∙ covers-row (runAt xs k) s u (d .covering)))

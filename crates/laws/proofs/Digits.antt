@@ -1,0 +1,73 @@
+-- Numbers as bytes and back. The k bytes of a number below 256^k read as that number, wherever they stand, and the number
+-- in k bytes has those bytes: each step splits off the lowest byte by the remainder and the quotient by 256.
+-- Assumes nothing.
+use Prim.Native.Nat.{ℕ, zero, suc, _+_, _*_, _/_, _%_, _^_, _≤_, _<_}
+use mathlib.Core.Path.{_≡_, refl, sym, ap, _∙_}
+use mathlib.Core.List.{List, [], _∷_, _++_}
+use native.Mathlib.Nat.{add-zero, add-assoc, pow-suc, mod-lt, mod-eq-of-lt, div-eq-of-lt, div-add-mod, div-lt-iff-lt-mul, add-mul-mod-self-left, add-mul-div-left, mul-le-mul-left}
+use native.Mathlib.Numerals.{add-one}
+use native.Mathlib.Omega.{arith}
+use lib.ListN.{length, getD, take, drop, List·getD-eq-default, List·getD-append}
+use lib.Seq.{getD-append-add, drop-cons}
+use Rattle.laws.specs.Digits.{digits, numAt}
+use Rattle.laws.proofs.Cases.{lt-or-le}
+
+-- every entry is a byte
+abbrev pub AreBytes : List ℕ → Type 0
+AreBytes b = (k : ℕ) → k < length b → getD b k 0 < 256
+
+-- past the end too
+pub byte-below : (b : List ℕ) → AreBytes b → (k : ℕ) → getD b k 0 < 256
+byte-below b h k = lt-or-le k (length b) (h k) (λ l. rw (List·getD-eq-default b 0 l) (omega arith))
+
+pub length-digits : (k v : ℕ) → length (digits k v) ≡ k
+unfolding digits
+length-digits zero v = refl
+length-digits (suc k) v = ap suc (length-digits k (v / 256))
+
+-- what is written are bytes
+pub digits-bytes : (k v : ℕ) → AreBytes (digits k v)
+unfolding digits
+digits-bytes zero v j h = absurd (native.Mathlib.Nat.not-suc-le-zero h)
+digits-bytes (suc k) v zero h = mod-lt v {m = 256} (omega arith)
+digits-bytes (suc k) v (suc j) h = digits-bytes k (v / 256) j (native.Mathlib.Nat.le-of-suc-le-suc h)
+
+-- a field of one byte is that byte
+pub numAt-one : (b : List ℕ) (at : ℕ) → numAt 1 b at ≡ getD b at 0
+unfolding numAt
+numAt-one b at = omega arith
+
+-- a field is read the same where something stands before ..
+pub numAt-after : (k : ℕ) (pre b : List ℕ) (at : ℕ) → numAt k (pre ++ b) (length pre + at) ≡ numAt k b at
+unfolding numAt
+numAt-after zero pre b at = refl
+numAt-after (suc k) pre b at = rw (getD-append-add, add-assoc, numAt-after k pre b (at + 1))
+
+-- .. and where something stands after it
+pub numAt-before : (k : ℕ) (b post : List ℕ) (at : ℕ) → at + k ≤ length b → numAt k (b ++ post) at ≡ numAt k b at
+unfolding numAt
+numAt-before zero b post at h = refl
+numAt-before (suc k) b post at h = rw (List·getD-append b post 0 at (omega arith), numAt-before k b post (at + 1) (omega arith))
+
+-- written and read again
+pub numAt-digits : (k v : ℕ) (rest : List ℕ) → v < 256 ^ k → numAt k (digits k v ++ rest) 0 ≡ v
+unfolding digits numAt
+numAt-digits zero v rest h = omega arith
+numAt-digits (suc k) v rest h =
+    let below : v / 256 < 256 ^ k = div-lt-iff-lt-mul {k = 256} (omega arith) .1 (rw pow-suc at h) in
+    omega (arith, numAt-after k (v % 256 ∷ []) (digits k (v / 256) ++ rest) 0, numAt-digits k (v / 256) rest below)
+
+-- the number in a field of k bytes is below 256^k
+pub numAt-below : (k : ℕ) (b : List ℕ) (at : ℕ) → AreBytes b → numAt k b at < 256 ^ k
+unfolding numAt
+numAt-below zero b at h = omega arith
+numAt-below (suc k) b at h = rw pow-suc (omega (arith, byte-below b h at, numAt-below k b (at + 1) h))
+
+-- read and written again
+pub digits-numAt : (k : ℕ) (b : List ℕ) (at : ℕ) → AreBytes b → at + k ≤ length b → digits k (numAt k b at) ≡ take k (drop at b)
+unfolding digits numAt
+digits-numAt zero b at h l = refl
+digits-numAt (suc k) b at h l =
+    let low : (getD b at 0 + 256 * numAt k b (at + 1)) % 256 ≡ getD b at 0 = add-mul-mod-self-left (getD b at 0) 256 (numAt k b (at + 1)) ∙ mod-eq-of-lt (byte-below b h at) in
+    let high : (getD b at 0 + 256 * numAt k b (at + 1)) / 256 ≡ numAt k b (at + 1) = omega (arith, byte-below b h at) in
+    rw (drop-cons b at 0 (omega arith), low, high, digits-numAt k b (at + 1) h (omega arith), add-one)

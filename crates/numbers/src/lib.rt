@@ -1,0 +1,60 @@
+// Arithmetic of a plan: the greatest common divisor, and a duty's slice.
+ghost use mathlib.Core.Path.{_≡_};
+ghost use Prim.Native.Nat.{_+_, _*_, _/_, _%_, _≤_, _<_};
+ghost use lib.ListN.{length};
+ghost use lib.Dec.{eqb};
+ghost use Rattle.laws.specs.Divisor.{gcd, gcdOf};
+ghost use Rattle.paper.specs.Words.{slice, whole};
+ghost use Rattle.paper.specs.Bytes.{mostTicks};
+use paper::Duty;
+
+// The greatest common divisor, by Euclid's steps.
+pub fn gcd_of(a: u32, b: u32) -> u32
+    ensures { λ r. ⌜ r ≡ gcd a b ⌝ }
+{
+    let mut x = a;
+    let mut y = b;
+    while y != 0 {
+        let rest = x % y;
+        x = y;
+        y = rest;
+    }
+    x
+}
+
+// The block length of a list of periods: their greatest common divisor.
+pub fn gcd_of_all(periods: &[u32]) -> u32
+    ensures { λ r. ⌜ r ≡ gcdOf (now (periods .entry)) ⌝ }
+{
+    let mut g: u32 = 0;
+    let mut i = 0;
+    while i < periods.len() {
+        g = gcd_of(g, periods[i]);
+        i += 1;
+    }
+    g
+}
+
+// T·C: it has 40 bits at the most.
+fn scaled(t: u32, service: u32) -> u64
+    requires { ⌜ (t ≤ mostTicks) × (service ≤ mostTicks) ⌝ }
+    ensures { λ r. ⌜ (r ≡ t * service) × (r ≤ mostTicks * mostTicks) ⌝ }
+{
+    t as u64 * service as u64
+}
+
+// Whether a duty's slice T·C/D is whole.
+pub fn is_whole(t: u32, x: Duty) -> bool
+    requires { ⌜ (t ≤ mostTicks) × (x .service ≤ mostTicks) × (0 < x .period) ⌝ }
+    ensures { λ r. ⌜ r ≡ whole t x ⌝ }
+{
+    scaled(t, x.service) % x.period as u64 == 0
+}
+
+// A duty's slice T·C/D. It is at most T, since C is at most D.
+pub fn slice_of(t: u32, x: Duty) -> u32
+    requires { ⌜ (t ≤ mostTicks) × (x .service ≤ mostTicks) × (x .service ≤ x .period) × (0 < x .period) ⌝ }
+    ensures { λ r. ⌜ (r ≡ slice t x) × (r ≤ t) ⌝ }
+{
+    (scaled(t, x.service) / x.period as u64) as u32
+}

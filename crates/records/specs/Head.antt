@@ -1,0 +1,8 @@
+-- The head record by its three fields, as a writer has them before it has the table.
+use Prim.Native.Nat.{ℕ}
+use mathlib.Core.List.{List, _∷_, _++_}
+use Rattle.laws.specs.Digits.{digits}
+
+-- `headBytes small` of a table with block length t, m engines and n duties
+abbrev pub headOf : ℕ → ℕ → ℕ → List ℕ
+headOf t m n = 1 ∷ digits 4 t ++ digits 1 m ++ digits 1 n
