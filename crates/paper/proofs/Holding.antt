@@ -3,7 +3,7 @@
 -- Assumes nothing.
 use Prim.Native.Nat.{ℕ, zero, suc, _+_, _≤_, _<_}
 use mathlib.Core.Path.{_≡_, refl, sym, _∙_}
-use mathlib.Core.Bool.{Bool, true, false, _&&_}
+use mathlib.Core.Bool.{true, false, _&&_}
 use mathlib.Core.List.{List, [], _∷_}
 use native.Mathlib.Nat.{not-suc-le-zero, le-of-suc-le-suc}
 use native.Mathlib.Numerals.{add-one}
@@ -11,22 +11,16 @@ use native.Mathlib.Omega.{arith}
 use lib.Dec.{leb, ltb, eqb, leb·suc-suc}
 use lib.ListN.{length, drop, drop-of-length-le}
 use lib.Seq.{drop-cons}
-use borrow.Author.Tests.{eqb-true, eqb-false, ne-eqb, leb-true, ltb-true, eq-eqb, le-leb, lt-ltb}
+use borrow.Author.Tests.{eqb-true, leb-true, ltb-true, eq-eqb, le-leb, lt-ltb}
 use Rattle.laws.specs.Choice.{pick}
 use Rattle.laws.specs.Search.{first}
-use Rattle.laws.proofs.Cases.{by-cases, lt-or-le}
+use Rattle.laws.proofs.Cases.{by-cases, lt-or-le, not-both, both-true, eqb-sym}
 use Rattle.paper.specs.declared.Row.{Row}
 use Rattle.paper.specs.declared.Run.{Run}
 use Rattle.paper.specs.declared.Held.{Held}
 use Rattle.paper.specs.declared.Held.the-variants.{Idle, By}
 use Rattle.paper.specs.Words.{run, stop, covers, runAt, heldIn, same}
 use Rattle.paper.specs.Statements.{Has, Apart}
-use Rattle.paper.proofs.Rotation.{not-both}
-
--- both tests hold where both together do
-pub both-true : (a b : Bool) → a && b ≡ true → (a ≡ true) × (b ≡ true)
-both-true true b p = (refl, p)
-both-true false b p = not-both p refl
 
 -- a run covers a unit of a row where it is of the row and has the unit
 pub covers-row : (x : Run) (r : Row) (u : ℕ) → covers x r u ≡ true → x .row .0 ≡ r .0
@@ -103,11 +97,6 @@ pub same-idle : (h : Held) → same h Idle ≡ false
 unfolding same
 same-idle Idle = refl
 same-idle (By i) = refl
-
--- the order of an equation does not matter
-eqb-sym : (i j : ℕ) → eqb i j ≡ eqb j i
-eqb-sym i j =
-    by-cases (eqb i j) (λ p. p ∙ sym (eq-eqb j i (sym (eqb-true i j p)))) (λ p. p ∙ sym (ne-eqb j i (λ q. eqb-false i j p (sym q))))
 
 -- one duty holds both in either order
 pub same-sym : (g h : Held) → same g h ≡ same h g

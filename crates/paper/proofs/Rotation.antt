@@ -10,15 +10,11 @@ use native.Mathlib.Nat.{not-suc-le-zero}
 use native.Mathlib.Numerals.{add-one}
 use native.Mathlib.Omega.{arith}
 use Rattle.laws.specs.Sum.{sumTo}
-use Rattle.laws.proofs.Cases.{by-cases, lt-or-le}
+use Rattle.laws.proofs.Cases.{by-cases, lt-or-le, not-both}
 use Rattle.laws.proofs.Sum.{sum-suc, sum-none}
 use Rattle.paper.specs.declared.Engine.{Engine}
 use Rattle.paper.specs.Words.{row, engine}
 use Rattle.paper.specs.Rotation.{firstOf, nextOf, rowAt}
-
--- a Bool is not both
-pub not-both : {P : Type 0} {b : Bool} → b ≡ true → b ≡ false → P
-not-both p q = let z : _≡_ {A = ℕ} 0 1 = cc in absurd (omega arith)
 
 module _ (c : ℕ → Bool) where
   -- the first row of a chain: row 0, the row before's first where it is linked, else the row itself

@@ -3,9 +3,8 @@
 -- That is at most one; over a block it is the units of the duty's runs, its slice N; and a job is D/T whole blocks, with D/T · N = C.
 -- Of the block length only that it divides the period is used.
 -- Assumes nothing.
-use Prim.Native.Nat.{ℕ, _+_, _*_, _-_, _/_, _%_, _≤_, _<_, _∣_}
-use mathlib.Core.Path.{_≡_, refl, sym, ap, _∙_}
-use mathlib.Core.Bool.{false}
+use Prim.Native.Nat.{ℕ, _+_, _*_, _/_, _%_, _≤_, _<_, _∣_}
+use mathlib.Core.Path.{_≡_, sym, ap, _∙_}
 use native.Mathlib.Nat.{mul-div-cancel', div-mul-cancel, mul-assoc, mul-comm, eq-of-mul-eq-mul-left}
 use native.Mathlib.Omega.{arith}
 use lib.Arith.{digits-mod}
@@ -17,10 +16,9 @@ use Rattle.laws.specs.Sum.{sumTo}
 use Rattle.laws.proofs.Cases.{by-cases}
 use Rattle.laws.proofs.Sum.{sum-ext, sum-const, sum-blocks}
 use Rattle.paper.specs.declared.Duty.{Duty}
-use Rattle.paper.specs.declared.Held.{Held}
-use Rattle.paper.specs.declared.Held.the-variants.{Idle, By}
+use Rattle.paper.specs.declared.Held.the-variants.{By}
 use Rattle.paper.specs.Words.{row, engine, jobStart, slice, Table, dutyAt, runAt, heldIn, same}
-use Rattle.paper.specs.Rotation.{link, firstOf, rowAt}
+use Rattle.paper.specs.Rotation.{link, rowAt}
 use Rattle.paper.specs.Schedule.{walk, given, served}
 use Rattle.paper.specs.Bytes.{Width}
 use Rattle.paper.specs.Rules.{unitsOf}
@@ -65,7 +63,7 @@ block-units t l i b =
     sum-ext (t .ticks) (λ u. sumTo (t .engines) (λ e. one-if (same (heldIn (t .runs) (rowAt (link t) b (engine e)) u) (By i)))) (onUnit (t .runs) i) (λ u h. engines-unit t l i b u)
     ∙ units-block (t .ticks) (t .runs) (l .inside) i
 
--- the same of a tick, and of the ticks of a block
+-- the same of a tick
 pub given-unit : (t : Table) → Laid t → (i k : ℕ) → given (t .engines) (walk t) i k ≡ onUnit (t .runs) i (k % t .ticks)
 unfolding given walk
 given-unit t l i k = engines-unit t l i (k / t .ticks) (k % t .ticks)

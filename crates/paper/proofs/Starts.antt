@@ -14,7 +14,7 @@ use lib.ListN.{length}
 use borrow.Author.Tests.{eqb-true, eqb-false, eq-eqb, ne-eqb}
 use Rattle.laws.specs.Choice.{pick, one-if}
 use Rattle.laws.specs.Sum.{sumTo}
-use Rattle.laws.proofs.Cases.{by-cases, lt-or-le}
+use Rattle.laws.proofs.Cases.{by-cases, lt-or-le, both-true}
 use Rattle.laws.proofs.Sum.{sum-ext, sum-first, sum-plus, sum-const, sum-swap, sum-zero, sum-only, count-cell}
 use Rattle.paper.specs.declared.Run.{Run}
 use Rattle.paper.specs.declared.Held.the-variants.{By}
@@ -22,7 +22,7 @@ use Rattle.paper.specs.Words.{row, stop, Table, runAt, heldIn, same, bus
 use Rattle.paper.specs.Schedule.{loads}
 use Rattle.paper.specs.Bytes.{Width}
 use Rattle.paper.specs.Statements.{Ranged, Meets, Has}
-use Rattle.paper.proofs.Holding.{both-true, Covering, RowsApart, has-covers, covers-has, covers-row, held-cases, held-by, covering-one}
+use Rattle.paper.proofs.Holding.{Covering, RowsApart, has-covers, covers-has, covers-row, held-cases, held-by, covering-one}
 use Rattle.paper.proofs.Links.{Closed, closed}
 use Rattle.paper.proofs.Loads.{fresh, opening, inside, later, carried, loads-none, loads-first, loads-closed, later-carried}
 

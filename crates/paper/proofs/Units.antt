@@ -1,4 +1,4 @@
--- How often a duty serves on a unit of a block. Where the runs of a row are apart, the rows that a duty holds on a unit are as many as its
+-- How often a duty stands on a unit of a block. Where the runs of a row are apart, the rows that a duty holds on a unit are as many as its
 -- runs that have the unit: each run adds its own row and takes none away. Over the units of a block that adds up to the runs' lengths; and
 -- where the runs of a duty are apart it is at most one.
 -- Assumes nothing.
@@ -13,7 +13,7 @@ use lib.ListN.{length}
 use borrow.Author.Tests.{ltb-true, leb-true, eqb-true, eq-eqb, ne-eqb}
 use Rattle.laws.specs.Choice.{pick, one-if}
 use Rattle.laws.specs.Sum.{sumTo}
-use Rattle.laws.proofs.Cases.{by-cases, lt-or-le}
+use Rattle.laws.proofs.Cases.{by-cases, lt-or-le, and-yes, and-no}
 use Rattle.laws.proofs.Lists.{and-left, and-right}
 use Rattle.laws.proofs.Sum.{sum-ext, sum-plus, sum-zero, sum-only, count-stretch}
 use Rattle.paper.specs.declared.Row.{Row}
@@ -45,7 +45,7 @@ RowsBelow m xs = (k : ℕ) → k < length xs → runAt xs k .row .0 < m
 abbrev pub Inside : ℕ → List Run → Type 0
 Inside t xs = (k : ℕ) → k < length xs → stop (runAt xs k) ≤ t
 
--- idle is held by no duty
+-- idle is no duty; a duty is itself alone
 idle-same : (i : ℕ) → same Idle (By i) ≡ false
 unfolding same
 idle-same i = refl
@@ -55,14 +55,6 @@ unfolding same
 same-by i j = refl
 
 -- ---- one run
-
-and-no : (b : Bool) → b && false ≡ false
-and-no true = refl
-and-no false = refl
-
-and-yes : (b : Bool) → b && true ≡ b
-and-yes true = refl
-and-yes false = refl
 
 -- 1 where run x is duty i's and covers unit u of row r
 abbrev counts : Run → ℕ → ℕ → ℕ → ℕ
@@ -116,12 +108,13 @@ units-block t (x ∷ xs) inside i =
 
 -- ---- at most once
 
--- no run of a duty has the unit
+-- where no run of the duty has the unit there are none
 unit-none : (xs : List Run) (i u : ℕ) → ((k : ℕ) → k < length xs → serves (runAt xs k) i u ≡ false) → onUnit xs i u ≡ 0
 unfolding onUnit
 unit-none [] i u c = refl
 unit-none (x ∷ xs) i u c = rw (c 0 (omega arith)) (omega (arith, unit-none xs i u (λ k h. c (suc k) (omega arith))))
 
+-- where the test holds the run is the duty's and has the unit
 serves-has : (x : Run) (i u : ℕ) → serves x i u ≡ true → (x .duty ≡ i) × Has x u
 serves-has x i u h =
     let a = eqb (x .duty) i in
