@@ -30,7 +30,7 @@ use Rattle.paper.proofs.Links.{Closed, closed, rows-end}
 use Rattle.paper.proofs.Units.{RowsBelow, Inside, DutiesApart, onUnit, rows-unit, units-block, unit-once, one-row}
 
 -- the runs lie in the rows and the units of a block and are apart: what service and exclusion need of a table
-pub record Laid (t : Table) : Type 0 where
+pub record Serving (t : Table) : Type 0 where
   pub closed : Closed t
   pub rows-below : RowsBelow (t .engines) (t .runs)
   pub inside : Inside (t .ticks) (t .runs)
@@ -38,8 +38,8 @@ pub record Laid (t : Table) : Type 0 where
   pub apart-of-duty : DutiesApart (t .runs)
 
 -- 14 and 16 together: the runs of a duty are apart, on one row or on two
-pub meets-laid : {w : Width} {t : Table} → Ranged w t → Meets t → Laid t
-meets-laid {w} {t} r m =
+pub meets-serving : {w : Width} {t : Table} → Ranged w t → Meets t → Serving t
+meets-serving {w} {t} r m =
     record {
       closed = closed w t r;
       rows-below = λ k h. r .run-ranged k h .row-below;
@@ -52,35 +52,35 @@ meets-laid {w} {t} r m =
     }
 
 -- on a unit of any block a duty runs on as many engines as it has runs there
-pub engines-unit : (t : Table) → Laid t → (i b u : ℕ) → sumTo (t .engines) (λ e. one-if (same (heldIn (t .runs) (rowAt (link t) b (engine e)) u) (By i))) ≡ onUnit (t .runs) i u
+pub engines-unit : (t : Table) → Serving t → (i b u : ℕ) → sumTo (t .engines) (λ e. one-if (same (heldIn (t .runs) (rowAt (link t) b (engine e)) u) (By i))) ≡ onUnit (t .runs) i u
 engines-unit t l i b u =
     row-sum (link t) (t .engines) (rows-end t (l .closed)) b (λ r. one-if (same (heldIn (t .runs) (row r) u) (By i)))
     ∙ rows-unit (t .engines) (t .runs) (l .apart-in-row) (l .rows-below) i u
 
 -- .. and in the whole block on as many units as its runs have
-pub block-units : (t : Table) → Laid t → (i b : ℕ) → sumTo (t .ticks) (λ u. sumTo (t .engines) (λ e. one-if (same (heldIn (t .runs) (rowAt (link t) b (engine e)) u) (By i)))) ≡ unitsOf (t .runs) i
+pub block-units : (t : Table) → Serving t → (i b : ℕ) → sumTo (t .ticks) (λ u. sumTo (t .engines) (λ e. one-if (same (heldIn (t .runs) (rowAt (link t) b (engine e)) u) (By i)))) ≡ unitsOf (t .runs) i
 block-units t l i b =
     sum-ext (t .ticks) (λ u. sumTo (t .engines) (λ e. one-if (same (heldIn (t .runs) (rowAt (link t) b (engine e)) u) (By i)))) (onUnit (t .runs) i) (λ u h. engines-unit t l i b u)
     ∙ units-block (t .ticks) (t .runs) (l .inside) i
 
 -- the same of a tick
-pub given-unit : (t : Table) → Laid t → (i k : ℕ) → given (t .engines) (walk t) i k ≡ onUnit (t .runs) i (k % t .ticks)
+pub given-unit : (t : Table) → Serving t → (i k : ℕ) → given (t .engines) (walk t) i k ≡ onUnit (t .runs) i (k % t .ticks)
 unfolding given walk
 given-unit t l i k = engines-unit t l i (k / t .ticks) (k % t .ticks)
 
 -- exclusion: no duty runs on two engines in a tick
-pub given-once : (t : Table) → Laid t → (i k : ℕ) → given (t .engines) (walk t) i k ≤ 1
+pub given-once : (t : Table) → Serving t → (i k : ℕ) → given (t .engines) (walk t) i k ≤ 1
 given-once t l i k = rw (given-unit t l i k) (unit-once (t .runs) (l .apart-of-duty) i (k % t .ticks))
 
 -- .. in plain words: two engines that run one duty in one tick are one engine
-pub one-engine : (t : Table) → Laid t → (i k e d : ℕ) → walk t (engine e) k ≡ By i → walk t (engine d) k ≡ By i → e ≡ d
+pub one-engine : (t : Table) → Serving t → (i k e d : ℕ) → walk t (engine e) k ≡ By i → walk t (engine d) k ≡ By i → e ≡ d
 unfolding walk
 one-engine t l i k e d p q =
     let b = k / t .ticks in
     row-one (link t) b e d (one-row (t .runs) (l .apart-of-duty) (rowAt (link t) b (engine e)) (rowAt (link t) b (engine d)) (k % t .ticks) i p q)
 
 -- service over n whole blocks from block b on: n times the units of the duty's runs
-pub served-blocks : (t : Table) → Laid t → (i b n : ℕ) → served (t .engines) (walk t) i (b * t .ticks) (n * t .ticks) ≡ n * unitsOf (t .runs) i
+pub served-blocks : (t : Table) → Serving t → (i b n : ℕ) → served (t .engines) (walk t) i (b * t .ticks) (n * t .ticks) ≡ n * unitsOf (t .runs) i
 unfolding served
 served-blocks t l i b n =
     sum-blocks n T (λ j. given (t .engines) (walk t) i (b * T + j))
@@ -110,7 +110,7 @@ slices-service t x h d w =
     (sym (mul-assoc t n s) ∙ ap (λ (y : ℕ). y * s) (mul-comm t n ∙ div-mul-cancel t d) ∙ mul-div-cancel' (x .period) w)
 
 -- a job is D/T whole blocks; it gets the service where the duty's runs add up to the slice
-pub job-blocks : (t : Table) → Laid t → (i : ℕ) (x : Duty) → t .ticks ∣ x .period → x .period ∣ t .ticks * x .service → unitsOf (t .runs) i ≡ slice (t .ticks) x → (q : ℕ) → served (t .engines) (walk t) i (jobStart x q) (x .period) ≡ x .service
+pub job-blocks : (t : Table) → Serving t → (i : ℕ) (x : Duty) → t .ticks ∣ x .period → x .period ∣ t .ticks * x .service → unitsOf (t .runs) i ≡ slice (t .ticks) x → (q : ℕ) → served (t .engines) (walk t) i (jobStart x q) (x .period) ≡ x .service
 job-blocks t l i x d w s q =
     let n = x .period / t .ticks in
     let e = div-mul-cancel (t .ticks) d in
@@ -126,8 +126,8 @@ job-blocks t l i x d w s q =
 -- service: in every accepted table each job of each duty gets the duty's service
 pub job-served : {w : Width} (t : Table) → Ranged w t → Meets t → (i : ℕ) → i < length (t .duties) → (q : ℕ) → served (t .engines) (walk t) i (jobStart (dutyAt (t .duties) i) q) (dutyAt (t .duties) i .period) ≡ dutyAt (t .duties) i .service
 job-served t r m i h q =
-    job-blocks t (meets-laid r m) i (dutyAt (t .duties) i) (ticks-divides t m i h) (m .slices-whole i h) (m .sums-right i h) q
+    job-blocks t (meets-serving r m) i (dutyAt (t .duties) i) (ticks-divides t m i h) (m .slices-whole i h) (m .sums-right i h) q
 
 -- exclusion: in every accepted table, at each tick, each duty runs on one engine at most
 pub never-twice : {w : Width} (t : Table) → Ranged w t → Meets t → (i k : ℕ) → given (t .engines) (walk t) i k ≤ 1
-never-twice t r m i k = given-once t (meets-laid r m) i k
+never-twice t r m i k = given-once t (meets-serving r m) i k
