@@ -1,24 +1,23 @@
 -- A table is accepted exactly when it meets the plain statements of rules 11 to 17: the judge goes down the rules, so its answer is the
 -- table only if no rule's test finds a place, and then every rule's statement holds; and the converse.
 -- Assumes nothing.
-use Prim.Native.Nat.{ℕ, _+_, _*_, _≤_, _<_, _∣_}
-use mathlib.Core.Path.{_≡_, refl, sym, ap, _∙_}
+use Prim.Native.Nat.{ℕ, _*_, _≤_, _<_, _∣_}
+use mathlib.Core.Path.{_≡_, refl, ap}
 use mathlib.Core.Bool.{Bool, true, false, not}
 use mathlib.Core.List.{List, [], _∷_, map}
 use mathlib.Core.Logic.{_↔_}
 use native.Mathlib.Omega.{arith}
-use lib.Dec.{ltb, eqb}
-use lib.ListN.{length, getD, length-map, List·getD-map}
-use borrow.Author.Tests.{eqb-true, eq-eqb, not-false}
+use lib.Dec.{leb, ltb, eqb}
+use lib.ListN.{length, length-map, List·getD-map}
+use borrow.Author.Tests.{leb-true, eqb-true, eq-eqb, not-false}
 use Rattle.laws.specs.Choice.{pick}
-use Rattle.laws.specs.Search.{first, any}
+use Rattle.laws.specs.Search.{first}
 use Rattle.laws.specs.Lists.{tab, flat}
 use Rattle.laws.specs.Digits.{digits, numAt}
 use Rattle.laws.specs.Divisor.{gcdOf, gcd, euclid}
 use Rattle.laws.proofs.Search.{none-clear, clear-none}
 use Rattle.laws.proofs.Divisor.{gcdOf-divides}
 use Rattle.paper.specs.declared.Duty.{Duty}
-use Rattle.paper.specs.declared.Run.{Run}
 use Rattle.paper.specs.Words.{duty, run, slice, blockLengthOf, whole, dutyAt, runAt, Table}
 use Rattle.paper.specs.Outcome.{Outcome, refused, answer, andThen}
 use Rattle.paper.specs.Sa1.{sa1, lay, layOne, rowAfter, unitAfter}
@@ -191,3 +190,13 @@ byHand-accepted = refl
 pub byHand-own : byHand ≡ sa1 6 3 (byHand .duties) → ⊥
 unfolding byHand sa1 lay layOne rowAfter unitAfter slice
 byHand-own e = let z : _≡_ {A = ℕ} 5 2 = ap (λ (t : Table). length (t .runs)) e in omega arith
+
+-- so there are tables that meet the statements and are none of SA1's
+pub byHand-meets : Meets byHand
+unfolding byHand first
+byHand-meets = accepted-iff byHand long .0 (accepted-read (encode small byHand) byHand byHand-accepted .1)
+  where
+    long : Long byHand
+    long k h =
+        let some : ℕ → Bool = λ j. leb 1 (runAt (byHand .runs) j .length) in
+        leb-true 1 (runAt (byHand .runs) k .length) (not-false (some k) (none-clear (λ j. not (some j)) 5 refl k h))

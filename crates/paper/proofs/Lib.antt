@@ -9,3 +9,5 @@ pub mod Sa1Shares
 pub mod Sa1Table
 pub mod Rules
 pub mod Accepted
+pub mod Units
+pub mod Service
