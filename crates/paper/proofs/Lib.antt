@@ -11,3 +11,5 @@ pub mod Rules
 pub mod Accepted
 pub mod Units
 pub mod Service
+pub mod Bytes
+pub mod Fields

@@ -1,0 +1,91 @@
+-- A table's bytes: how long they are, and which record stands where. Records of one kind are equally long, so the place
+-- of each is computed from its number.
+-- Assumes nothing.
+use Prim.Native.Nat.{ℕ, zero, suc, _+_, _*_, _^_, _≤_, _<_}
+use mathlib.Core.Path.{_≡_, refl, sym, ap, _∙_}
+use mathlib.Core.Bool.{true, _&&_}
+use mathlib.Core.List.{List, [], _∷_, _++_}
+use native.Mathlib.Nat.{zero-add, add-left-cancel, eq-of-mul-eq-mul-left}
+use native.Mathlib.Omega.{arith}
+use lib.Dec.{leb, eqb}
+use lib.ListN.{length, getD, length-append}
+use borrow.Author.Tests.{le-leb, eq-eqb}
+use Rattle.laws.specs.Lists.{tab, flat}
+use Rattle.laws.specs.Digits.{digits, numAt}
+use Rattle.laws.proofs.Lists.{and-both, length-flat, tab-ext, tab-getD}
+use Rattle.laws.proofs.Digits.{length-digits}
+use Rattle.laws.proofs.Parts.{Holds, holds-all, holds-at, holds-left, holds-right, holds-room, holds-first, holds-num, holds-flat}
+use Rattle.paper.specs.declared.Duty.{Duty}
+use Rattle.paper.specs.declared.Run.{Run}
+use Rattle.paper.specs.Words.{duty, run, Table, dutyAt, runAt}
+use Rattle.paper.specs.Bytes.{Width, headBytes, dutyBytes, runBytes, endBytes, encode, headLength, dutyLength, runLength, endLength, dutyPlace, runPlace, stands, ticksIn, enginesIn, dutiesIn, dutyIn, runIn, tableIn}
+
+-- ---- lengths
+
+pub length-head : (w : Width) (t : Table) → length (headBytes w t) ≡ headLength w
+unfolding headBytes
+length-head w t = simp (length-append, length-digits) (omega arith)
+
+pub length-duty : (x : Duty) → length (dutyBytes x) ≡ dutyLength
+unfolding dutyBytes
+length-duty x = simp (length-append, length-digits)
+
+pub length-run : (w : Width) (x : Run) → length (runBytes w x) ≡ runLength w
+unfolding runBytes
+length-run w x = simp (length-append, length-digits) (omega arith)
+
+pub length-end : (n : ℕ) → length (endBytes n) ≡ endLength
+unfolding endBytes
+length-end n = simp length-digits
+
+-- up to the runs
+length-front : (w : Width) (t : Table) → length (headBytes w t ++ flat dutyBytes (t .duties)) ≡ headLength w + dutyLength * length (t .duties)
+length-front w t = length-append (headBytes w t) (flat dutyBytes (t .duties)) ∙ omega (arith, length-head w t, length-flat dutyBytes dutyLength length-duty (t .duties))
+
+-- up to the end record
+length-body :
+    (w : Width) (t : Table)
+    → length (headBytes w t ++ flat dutyBytes (t .duties) ++ flat (runBytes w) (t .runs)) ≡ runPlace w (length (t .duties)) (length (t .runs))
+length-body w t =
+    length-append (headBytes w t ++ flat dutyBytes (t .duties)) (flat (runBytes w) (t .runs))
+    ∙ omega (arith, length-front w t, length-flat (runBytes w) (runLength w) (length-run w) (t .runs))
+
+-- all of them
+pub length-encode : (w : Width) (t : Table) → length (encode w t) ≡ headLength w + dutyLength * length (t .duties) + runLength w * length (t .runs) + endLength
+unfolding encode
+length-encode w t =
+    length-append (headBytes w t ++ flat dutyBytes (t .duties) ++ flat (runBytes w) (t .runs)) (endBytes (length (t .runs)))
+    ∙ omega (arith, length-body w t, length-end (length (t .runs)))
+
+-- ---- what stands where
+
+pub head-stands : (w : Width) (t : Table) → Holds (encode w t) 0 (headBytes w t)
+unfolding encode
+head-stands w t =
+    holds-left (headBytes w t) (flat dutyBytes (t .duties))
+    (holds-left (headBytes w t ++ flat dutyBytes (t .duties)) (flat (runBytes w) (t .runs))
+    (holds-left (headBytes w t ++ flat dutyBytes (t .duties) ++ flat (runBytes w) (t .runs)) (endBytes (length (t .runs))) (holds-all (encode w t))))
+
+pub duty-stands : (w : Width) (t : Table) (d : ℕ) → d < length (t .duties) → Holds (encode w t) (dutyPlace w d) (dutyBytes (dutyAt (t .duties) d))
+unfolding encode
+duty-stands w t d h =
+    holds-flat dutyBytes dutyLength length-duty (duty 0 0) (t .duties) (headLength w) d h
+    (holds-at (0 + length (headBytes w t)) (headLength w) (omega (arith, length-head w t))
+    (holds-right (headBytes w t) (flat dutyBytes (t .duties))
+    (holds-left (headBytes w t ++ flat dutyBytes (t .duties)) (flat (runBytes w) (t .runs))
+    (holds-left (headBytes w t ++ flat dutyBytes (t .duties) ++ flat (runBytes w) (t .runs)) (endBytes (length (t .runs))) (holds-all (encode w t))))))
+
+pub run-stands :
+    (w : Width) (t : Table) (k : ℕ) → k < length (t .runs) → Holds (encode w t) (runPlace w (length (t .duties)) k) (runBytes w (runAt (t .runs) k))
+unfolding encode
+run-stands w t k h =
+    holds-flat (runBytes w) (runLength w) (length-run w) (run 0 0 0 0) (t .runs) (headLength w + dutyLength * length (t .duties)) k h
+    (holds-at (0 + length (headBytes w t ++ flat dutyBytes (t .duties))) (headLength w + dutyLength * length (t .duties)) (omega (arith, length-front w t))
+    (holds-right (headBytes w t ++ flat dutyBytes (t .duties)) (flat (runBytes w) (t .runs))
+    (holds-left (headBytes w t ++ flat dutyBytes (t .duties) ++ flat (runBytes w) (t .runs)) (endBytes (length (t .runs))) (holds-all (encode w t)))))
+
+pub end-stands : (w : Width) (t : Table) → Holds (encode w t) (runPlace w (length (t .duties)) (length (t .runs))) (endBytes (length (t .runs)))
+unfolding encode
+end-stands w t =
+    holds-at (0 + length (headBytes w t ++ flat dutyBytes (t .duties) ++ flat (runBytes w) (t .runs))) (runPlace w (length (t .duties)) (length (t .runs))) (omega (arith, length-body w t))
+    (holds-right (headBytes w t ++ flat dutyBytes (t .duties) ++ flat (runBytes w) (t .runs)) (endBytes (length (t .runs))) (holds-all (encode w t)))
