@@ -80,8 +80,10 @@ duty-kind x b at h = stands-there 2 dutyLength (digits 4 (x .service) ++ digits 
 pub duty-read : (x : Duty) (b : List ℕ) (at : ℕ) → Holds b at (dutyBytes x) → DutyFits x → dutyIn b at ≡ x
 unfolding dutyBytes dutyIn
 duty-read x b at h f =
-    rw (holds-num 4 (x .service) (holds-right (2 ∷ []) (digits 4 (x .service)) (holds-left (2 ∷ digits 4 (x .service)) (digits 4 (x .period)) h)) (f .service),
-      holds-num 4 (x .period) (holds-at (at + length (2 ∷ digits 4 (x .service))) (at + 5) (simp length-digits) (holds-right (2 ∷ digits 4 (x .service)) (digits 4 (x .period)) h)) (f .period))
+    rw (
+      holds-num 4 (x .service) (holds-right (2 ∷ []) (digits 4 (x .service)) (holds-left (2 ∷ digits 4 (x .service)) (digits 4 (x .period)) h)) (f .service),
+      holds-num 4 (x .period) (holds-at (at + length (2 ∷ digits 4 (x .service))) (at + 5) (simp length-digits) (holds-right (2 ∷ digits 4 (x .service)) (digits 4 (x .period)) h)) (f .period),
+    )
 
 -- a run's record reads as the run
 pub run-kind : (w : Width) (x : Run) (b : List ℕ) (at : ℕ) → Holds b at (runBytes w x) → stands b at (w .runKind) (runLength w) ≡ true
@@ -99,10 +101,12 @@ run-read w x b at h f =
     let e = digits 4 (x .length) in
     let to-first = holds-left (a ++ c ++ d) e h in
     let to-duty = holds-left (a ++ c) d to-first in
-    rw (holds-num 1 (x .row .0) (holds-right (w .runKind ∷ []) (digits 1 (x .row .0)) (holds-left a c to-duty)) (f .row),
+    rw (
+      holds-num 1 (x .row .0) (holds-right (w .runKind ∷ []) (digits 1 (x .row .0)) (holds-left a c to-duty)) (f .row),
       holds-num (w .dutyField) (x .duty) (holds-at (at + length a) (at + 2) (simp length-digits) (holds-right a c to-duty)) (f .duty),
       holds-num 4 (x .first) (holds-at (at + length (a ++ c)) (at + 2 + w .dutyField) (simp (length-append, length-digits) (omega arith)) (holds-right (a ++ c) d to-first)) (f .first),
-      holds-num 4 (x .length) (holds-at (at + length (a ++ c ++ d)) (at + 6 + w .dutyField) (simp (length-append, length-digits) (omega arith)) (holds-right (a ++ c ++ d) e h)) (f .length))
+      holds-num 4 (x .length) (holds-at (at + length (a ++ c ++ d)) (at + 6 + w .dutyField) (simp (length-append, length-digits) (omega arith)) (holds-right (a ++ c ++ d) e h)) (f .length),
+    )
 
 -- the end record reads as the number of runs
 pub end-kind : (n : ℕ) (b : List ℕ) (at : ℕ) → Holds b at (endBytes n) → stands b at 4 endLength ≡ true
@@ -144,7 +148,7 @@ table-read w t f =
 pub encode-one : (w : Width) (t t′ : Table) → InFields w t → InFields w t′ → encode w t ≡ encode w t′ → t ≡ t′
 encode-one w t t′ f f′ e =
     let n : length (t .duties) ≡ length (t′ .duties) =
-      sym (head-duties w t (encode w t) (head-stands w t) (f .head)) ∙ ap (dutiesIn w) e ∙ head-duties w t′ (encode w t′) (head-stands w t′) (f′ .head) in
+    sym (head-duties w t (encode w t) (head-stands w t) (f .head)) ∙ ap (dutiesIn w) e ∙ head-duties w t′ (encode w t′) (head-stands w t′) (f′ .head) in
     let k : length (t .runs) ≡ length (t′ .runs) =
-      eq-of-mul-eq-mul-left (runLength w) (omega arith) _ _ (omega (arith, length-encode w t, length-encode w t′, ap (λ (b : List ℕ). length b) e)) in
+    eq-of-mul-eq-mul-left (runLength w) (omega arith) _ _ (omega (arith, length-encode w t, length-encode w t′, ap (λ (b : List ℕ). length b) e)) in
     sym (table-read w t f) ∙ rw (e, n, k) (table-read w t′ f′)

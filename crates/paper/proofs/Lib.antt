@@ -13,3 +13,4 @@ pub mod Units
 pub mod Service
 pub mod Bytes
 pub mod Fields
+pub mod Written
