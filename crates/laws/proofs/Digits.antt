@@ -2,9 +2,9 @@
 -- in k bytes has those bytes: each step splits off the lowest byte by the remainder and the quotient by 256.
 -- Assumes nothing.
 use Prim.Native.Nat.{ℕ, zero, suc, _+_, _*_, _/_, _%_, _^_, _≤_, _<_}
-use mathlib.Core.Path.{_≡_, refl, sym, ap, _∙_}
+use mathlib.Core.Path.{_≡_, refl, ap, _∙_}
 use mathlib.Core.List.{List, [], _∷_, _++_}
-use native.Mathlib.Nat.{add-zero, add-assoc, pow-suc, mod-lt, mod-eq-of-lt, div-eq-of-lt, div-add-mod, div-lt-iff-lt-mul, add-mul-mod-self-left, add-mul-div-left, mul-le-mul-left}
+use native.Mathlib.Nat.{add-assoc, pow-suc, mod-lt, mod-eq-of-lt, div-lt-iff-lt-mul, add-mul-mod-self-left}
 use native.Mathlib.Numerals.{add-one}
 use native.Mathlib.Omega.{arith}
 use lib.ListN.{length, getD, take, drop, List·getD-eq-default, List·getD-append}
@@ -31,11 +31,6 @@ unfolding digits
 digits-bytes zero v j h = absurd (native.Mathlib.Nat.not-suc-le-zero h)
 digits-bytes (suc k) v zero h = mod-lt v {m = 256} (omega arith)
 digits-bytes (suc k) v (suc j) h = digits-bytes k (v / 256) j (native.Mathlib.Nat.le-of-suc-le-suc h)
-
--- a field of one byte is that byte
-pub numAt-one : (b : List ℕ) (at : ℕ) → numAt 1 b at ≡ getD b at 0
-unfolding numAt
-numAt-one b at = omega arith
 
 -- a field is read the same where something stands before ..
 pub numAt-after : (k : ℕ) (pre b : List ℕ) (at : ℕ) → numAt k (pre ++ b) (length pre + at) ≡ numAt k b at

@@ -1,24 +1,19 @@
 -- A table's bytes: how long they are, and which record stands where. Records of one kind are equally long, so the place
 -- of each is computed from its number.
 -- Assumes nothing.
-use Prim.Native.Nat.{ℕ, zero, suc, _+_, _*_, _^_, _≤_, _<_}
-use mathlib.Core.Path.{_≡_, refl, sym, ap, _∙_}
-use mathlib.Core.Bool.{true, _&&_}
-use mathlib.Core.List.{List, [], _∷_, _++_}
-use native.Mathlib.Nat.{zero-add, add-left-cancel, eq-of-mul-eq-mul-left}
+use Prim.Native.Nat.{ℕ, _+_, _*_, _<_}
+use mathlib.Core.Path.{_≡_, _∙_}
+use mathlib.Core.List.{_++_}
 use native.Mathlib.Omega.{arith}
-use lib.Dec.{leb, eqb}
-use lib.ListN.{length, getD, length-append}
-use borrow.Author.Tests.{le-leb, eq-eqb}
-use Rattle.laws.specs.Lists.{tab, flat}
-use Rattle.laws.specs.Digits.{digits, numAt}
-use Rattle.laws.proofs.Lists.{and-both, length-flat, tab-ext, tab-getD}
+use lib.ListN.{length, length-append}
+use Rattle.laws.specs.Lists.{flat}
+use Rattle.laws.proofs.Lists.{length-flat}
 use Rattle.laws.proofs.Digits.{length-digits}
-use Rattle.laws.proofs.Parts.{Holds, holds-all, holds-at, holds-left, holds-right, holds-room, holds-first, holds-num, holds-flat}
+use Rattle.laws.proofs.Parts.{Holds, holds-all, holds-at, holds-left, holds-right, holds-flat}
 use Rattle.paper.specs.declared.Duty.{Duty}
 use Rattle.paper.specs.declared.Run.{Run}
 use Rattle.paper.specs.Words.{duty, run, Table, dutyAt, runAt}
-use Rattle.paper.specs.Bytes.{Width, headBytes, dutyBytes, runBytes, endBytes, encode, headLength, dutyLength, runLength, endLength, dutyPlace, runPlace, stands, ticksIn, enginesIn, dutiesIn, dutyIn, runIn, tableIn}
+use Rattle.paper.specs.Bytes.{Width, headBytes, dutyBytes, runBytes, endBytes, encode, headLength, dutyLength, runLength, endLength, dutyPlace, runPlace}
 
 -- ---- lengths
 

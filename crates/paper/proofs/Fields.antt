@@ -1,25 +1,25 @@
 -- The fields of a table's bytes are the table's numbers, provided that each number fits its field: each field is read at
 -- the place where its bytes stand. So the bytes determine the table.
 -- Assumes nothing.
-use Prim.Native.Nat.{ℕ, zero, suc, _+_, _*_, _^_, _≤_, _<_}
-use mathlib.Core.Path.{_≡_, refl, sym, ap, _∙_}
-use mathlib.Core.Bool.{true, _&&_}
+use Prim.Native.Nat.{ℕ, suc, _+_, _^_, _<_}
+use mathlib.Core.Path.{_≡_, sym, ap, _∙_}
+use mathlib.Core.Bool.{true}
 use mathlib.Core.List.{List, [], _∷_, _++_}
-use native.Mathlib.Nat.{zero-add, add-left-cancel, eq-of-mul-eq-mul-left}
+use native.Mathlib.Nat.{eq-of-mul-eq-mul-left}
 use native.Mathlib.Omega.{arith}
 use lib.Dec.{leb, eqb}
 use lib.ListN.{length, getD, length-append}
 use borrow.Author.Tests.{le-leb, eq-eqb}
-use Rattle.laws.specs.Lists.{tab, flat}
+use Rattle.laws.specs.Lists.{tab}
 use Rattle.laws.specs.Digits.{digits, numAt}
-use Rattle.laws.proofs.Lists.{and-both, length-flat, tab-ext, tab-getD}
+use Rattle.laws.proofs.Lists.{and-both, tab-ext, tab-getD}
 use Rattle.laws.proofs.Digits.{length-digits}
-use Rattle.laws.proofs.Parts.{Holds, holds-all, holds-at, holds-left, holds-right, holds-room, holds-first, holds-num, holds-flat}
+use Rattle.laws.proofs.Parts.{Holds, holds-at, holds-left, holds-right, holds-room, holds-first, holds-num}
 use Rattle.paper.specs.declared.Duty.{Duty}
 use Rattle.paper.specs.declared.Run.{Run}
 use Rattle.paper.specs.Words.{duty, run, Table, dutyAt, runAt}
 use Rattle.paper.specs.Bytes.{Width, headBytes, dutyBytes, runBytes, endBytes, encode, headLength, dutyLength, runLength, endLength, dutyPlace, runPlace, stands, ticksIn, enginesIn, dutiesIn, dutyIn, runIn, tableIn}
-use Rattle.paper.proofs.Bytes.{length-encode, head-stands, duty-stands, run-stands, end-stands}
+use Rattle.paper.proofs.Bytes.{length-encode, head-stands, duty-stands, run-stands}
 
 -- a record that stands somewhere is not cut short and is of its kind
 pub stands-there : {b : List ℕ} {at : ℕ} (kind size : ℕ) (body : List ℕ) → suc (length body) ≡ size → Holds b at (kind ∷ body) → stands b at kind size ≡ true

@@ -14,3 +14,5 @@ pub mod Service
 pub mod Bytes
 pub mod Fields
 pub mod Written
+pub mod Passed
+pub mod Read

@@ -1,26 +1,22 @@
 -- A table written reads back as itself: every record of a table in range passes its test where it stands, the record
 -- after the last run is of another kind, so no more runs are read, and nothing follows the end record.
 -- Assumes nothing.
-use Prim.Native.Nat.{ℕ, suc, _+_, _*_, _^_, _≤_, _<_}
-use mathlib.Core.Path.{_≡_, refl, sym, ap, _∙_}
+use Prim.Native.Nat.{ℕ, _+_, _^_, _<_}
+use mathlib.Core.Path.{_≡_, refl, sym, ap}
 use mathlib.Core.Bool.{Bool, true, false, not, _&&_}
-use mathlib.Core.List.{List, _∷_}
 use native.Mathlib.Omega.{arith}
-use lib.Dec.{leb, ltb, eqb}
-use lib.ListN.{length, getD}
+use lib.Dec.{leb}
+use lib.ListN.{length}
 use borrow.Author.Tests.{le-leb, lt-ltb, le-ltb, eq-eqb, ne-eqb}
-use Rattle.laws.specs.Choice.{pick}
 use Rattle.laws.specs.Search.{first}
 use Rattle.laws.specs.Digits.{digits, numAt}
 use Rattle.laws.proofs.Cases.{lt-or-le}
 use Rattle.laws.proofs.Search.{first-is, first-none}
-use Rattle.laws.proofs.Parts.{Holds, holds-first}
-use Rattle.paper.specs.declared.Duty.{Duty}
-use Rattle.paper.specs.declared.Run.{Run}
+use Rattle.laws.proofs.Parts.{holds-first}
 use Rattle.paper.specs.Words.{stop, Table, dutyAt, runAt}
-use Rattle.paper.specs.Outcome.{Outcome, refused, answer}
-use Rattle.paper.specs.Bytes.{Width, small, mostTicks, endBytes, encode, endLength, dutyPlace, runPlace, headLength, runLength, stands, ticksIn, enginesIn, dutiesIn, dutyIn, runIn, headGood, dutyGood, runGood, endGood, badDuty, goodRuns, tableIn, afterRuns, afterHead, parse}
-use Rattle.paper.specs.Statements.{DutyRanged, RunRanged, Ranged}
+use Rattle.paper.specs.Outcome.{answer}
+use Rattle.paper.specs.Bytes.{Width, small, mostTicks, endBytes, encode, endLength, dutyPlace, runPlace, runLength, stands, ticksIn, enginesIn, dutiesIn, headGood, dutyGood, runGood, endGood, badDuty, goodRuns, afterRuns, afterHead, parse}
+use Rattle.paper.specs.Statements.{Ranged}
 use Rattle.paper.proofs.Bytes.{length-encode, head-stands, duty-stands, run-stands, end-stands}
 use Rattle.paper.proofs.Fields.{InFields, head-kind, head-ticks, head-engines, head-duties, duty-kind, duty-read, run-kind, run-read, end-kind, end-read, table-read}
 
