@@ -3,7 +3,7 @@
 -- Assumes nothing.
 use Prim.Native.Nat.{ℕ, _+_, _*_, _<_}
 use mathlib.Core.Path.{_≡_, _∙_}
-use mathlib.Core.List.{_++_}
+use mathlib.Core.List.{List, _++_}
 use native.Mathlib.Omega.{arith}
 use lib.ListN.{length, length-append}
 use Rattle.laws.specs.Lists.{flat}
@@ -17,70 +17,85 @@ use Rattle.paper.specs.Bytes.{Width, headBytes, dutyBytes, runBytes, end
 
 -- ---- lengths
 
+-- the head's length
 pub length-head : (w : Width) (t : Table) → length (headBytes w t) ≡ headLength w
 unfolding headBytes
 length-head w t = simp (length-append, length-digits) (omega arith)
 
+-- a duty record's length
 pub length-duty : (x : Duty) → length (dutyBytes x) ≡ dutyLength
 unfolding dutyBytes
 length-duty x = simp (length-append, length-digits)
 
+-- a run record's length
 pub length-run : (w : Width) (x : Run) → length (runBytes w x) ≡ runLength w
 unfolding runBytes
 length-run w x = simp (length-append, length-digits) (omega arith)
 
+-- the end record's length
 pub length-end : (n : ℕ) → length (endBytes n) ≡ endLength
 unfolding endBytes
 length-end n = simp length-digits
 
--- up to the runs
-length-front : (w : Width) (t : Table) → length (headBytes w t ++ flat dutyBytes (t .duties)) ≡ headLength w + dutyLength * length (t .duties)
+-- up to the runs, and up to the end record
+abbrev front : Width → Table → List ℕ
+front w t = headBytes w t ++ flat dutyBytes (t .duties)
+
+abbrev body : Width → Table → List ℕ
+body w t = front w t ++ flat (runBytes w) (t .runs)
+
+-- up to the runs they are as long as the place of the first says
+length-front : (w : Width) (t : Table) → length (front w t) ≡ headLength w + dutyLength * length (t .duties)
 length-front w t = length-append (headBytes w t) (flat dutyBytes (t .duties)) ∙ omega (arith, length-head w t, length-flat dutyBytes dutyLength length-duty (t .duties))
 
--- up to the end record
+-- up to the end record they are as long as its place says
 length-body :
     (w : Width) (t : Table)
-    → length (headBytes w t ++ flat dutyBytes (t .duties) ++ flat (runBytes w) (t .runs)) ≡ runPlace w (length (t .duties)) (length (t .runs))
+    → length (body w t) ≡ runPlace w (length (t .duties)) (length (t .runs))
 length-body w t =
-    length-append (headBytes w t ++ flat dutyBytes (t .duties)) (flat (runBytes w) (t .runs))
+    length-append (front w t) (flat (runBytes w) (t .runs))
     ∙ omega (arith, length-front w t, length-flat (runBytes w) (runLength w) (length-run w) (t .runs))
 
 -- all of them
 pub length-encode : (w : Width) (t : Table) → length (encode w t) ≡ headLength w + dutyLength * length (t .duties) + runLength w * length (t .runs) + endLength
 unfolding encode
 length-encode w t =
-    length-append (headBytes w t ++ flat dutyBytes (t .duties) ++ flat (runBytes w) (t .runs)) (endBytes (length (t .runs)))
+    length-append (body w t) (endBytes (length (t .runs)))
     ∙ omega (arith, length-body w t, length-end (length (t .runs)))
 
 -- ---- what stands where
 
-pub head-stands : (w : Width) (t : Table) → Holds (encode w t) 0 (headBytes w t)
+-- all but the end record stands at the front
+body-stands : (w : Width) (t : Table) → Holds (encode w t) 0 (body w t)
 unfolding encode
-head-stands w t =
-    holds-left (headBytes w t) (flat dutyBytes (t .duties))
-    (holds-left (headBytes w t ++ flat dutyBytes (t .duties)) (flat (runBytes w) (t .runs))
-    (holds-left (headBytes w t ++ flat dutyBytes (t .duties) ++ flat (runBytes w) (t .runs)) (endBytes (length (t .runs))) (holds-all (encode w t))))
+body-stands w t = holds-left (body w t) (endBytes (length (t .runs))) (holds-all (encode w t))
 
+-- and so does all before the runs
+front-stands : (w : Width) (t : Table) → Holds (encode w t) 0 (front w t)
+front-stands w t = holds-left (front w t) (flat (runBytes w) (t .runs)) (body-stands w t)
+
+-- the head stands at 0
+pub head-stands : (w : Width) (t : Table) → Holds (encode w t) 0 (headBytes w t)
+head-stands w t = holds-left (headBytes w t) (flat dutyBytes (t .duties)) (front-stands w t)
+
+-- each duty's record stands at its place
 pub duty-stands : (w : Width) (t : Table) (d : ℕ) → d < length (t .duties) → Holds (encode w t) (dutyPlace w d) (dutyBytes (dutyAt (t .duties) d))
-unfolding encode
 duty-stands w t d h =
     holds-flat dutyBytes dutyLength length-duty (duty 0 0) (t .duties) (headLength w) d h
     (holds-at (0 + length (headBytes w t)) (headLength w) (omega (arith, length-head w t))
-    (holds-right (headBytes w t) (flat dutyBytes (t .duties))
-    (holds-left (headBytes w t ++ flat dutyBytes (t .duties)) (flat (runBytes w) (t .runs))
-    (holds-left (headBytes w t ++ flat dutyBytes (t .duties) ++ flat (runBytes w) (t .runs)) (endBytes (length (t .runs))) (holds-all (encode w t))))))
+    (holds-right (headBytes w t) (flat dutyBytes (t .duties)) (front-stands w t)))
 
+-- each run's record stands at its place
 pub run-stands :
     (w : Width) (t : Table) (k : ℕ) → k < length (t .runs) → Holds (encode w t) (runPlace w (length (t .duties)) k) (runBytes w (runAt (t .runs) k))
-unfolding encode
 run-stands w t k h =
     holds-flat (runBytes w) (runLength w) (length-run w) (run 0 0 0 0) (t .runs) (headLength w + dutyLength * length (t .duties)) k h
-    (holds-at (0 + length (headBytes w t ++ flat dutyBytes (t .duties))) (headLength w + dutyLength * length (t .duties)) (omega (arith, length-front w t))
-    (holds-right (headBytes w t ++ flat dutyBytes (t .duties)) (flat (runBytes w) (t .runs))
-    (holds-left (headBytes w t ++ flat dutyBytes (t .duties) ++ flat (runBytes w) (t .runs)) (endBytes (length (t .runs))) (holds-all (encode w t)))))
+    (holds-at (0 + length (front w t)) (headLength w + dutyLength * length (t .duties)) (omega (arith, length-front w t))
+    (holds-right (front w t) (flat (runBytes w) (t .runs)) (body-stands w t)))
 
+-- the end record stands after the last run's
 pub end-stands : (w : Width) (t : Table) → Holds (encode w t) (runPlace w (length (t .duties)) (length (t .runs))) (endBytes (length (t .runs)))
 unfolding encode
 end-stands w t =
-    holds-at (0 + length (headBytes w t ++ flat dutyBytes (t .duties) ++ flat (runBytes w) (t .runs))) (runPlace w (length (t .duties)) (length (t .runs))) (omega (arith, length-body w t))
-    (holds-right (headBytes w t ++ flat dutyBytes (t .duties) ++ flat (runBytes w) (t .runs)) (endBytes (length (t .runs))) (holds-all (encode w t)))
+    holds-at (0 + length (body w t)) (runPlace w (length (t .duties)) (length (t .runs))) (omega (arith, length-body w t))
+    (holds-right (body w t) (endBytes (length (t .runs))) (holds-all (encode w t)))

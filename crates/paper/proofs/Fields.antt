@@ -34,10 +34,12 @@ pub record HeadFits (w : Width) (t : Table) : Type 0 where
   pub engines : t .engines < 256 ^ 1
   pub duties : length (t .duties) < 256 ^ w .dutyField
 
+-- a duty's numbers fit their fields
 pub record DutyFits (x : Duty) : Type 0 where
   pub service : x .service < 256 ^ 4
   pub period : x .period < 256 ^ 4
 
+-- a run's numbers fit their fields
 pub record RunFits (w : Width) (x : Run) : Type 0 where
   pub row : x .row .0 < 256 ^ 1
   pub duty : x .duty < 256 ^ w .dutyField
@@ -45,12 +47,14 @@ pub record RunFits (w : Width) (x : Run) : Type 0 where
   pub length : x .length < 256 ^ 4
 
 module _ (w : Width) (t : Table) (b : List ℕ) (h : Holds b 0 (headBytes w t)) where
+  -- the head is of its kind
   pub head-kind : stands b 0 (w .headKind) (headLength w) ≡ true
   unfolding headBytes
   head-kind =
       stands-there (w .headKind) (headLength w) (digits 4 (t .ticks) ++ digits 1 (t .engines) ++ digits (w .dutyField) (length (t .duties)))
       (simp (length-append, length-digits) (omega arith)) h
 
+  -- T is read
   pub head-ticks : HeadFits w t → ticksIn b ≡ t .ticks
   unfolding headBytes
   head-ticks f =
@@ -59,6 +63,7 @@ module _ (w : Width) (t : Table) (b : List ℕ) (h : Holds b 0 (headBytes w t)) 
       (holds-left (w .headKind ∷ digits 4 (t .ticks)) (digits 1 (t .engines))
       (holds-left (w .headKind ∷ digits 4 (t .ticks) ++ digits 1 (t .engines)) (digits (w .dutyField) (length (t .duties))) h))) (f .ticks)
 
+  -- the number of engines is read
   pub head-engines : HeadFits w t → enginesIn b ≡ t .engines
   unfolding headBytes digits
   head-engines f =
@@ -66,17 +71,19 @@ module _ (w : Width) (t : Table) (b : List ℕ) (h : Holds b 0 (headBytes w t)) 
       (holds-right (w .headKind ∷ digits 4 (t .ticks)) (digits 1 (t .engines))
       (holds-left (w .headKind ∷ digits 4 (t .ticks) ++ digits 1 (t .engines)) (digits (w .dutyField) (length (t .duties))) h)) (f .engines)
 
+  -- the number of duties is read
   pub head-duties : HeadFits w t → dutiesIn w b ≡ length (t .duties)
   unfolding headBytes digits
   head-duties f =
       holds-num (w .dutyField) (length (t .duties))
       (holds-right (w .headKind ∷ digits 4 (t .ticks) ++ digits 1 (t .engines)) (digits (w .dutyField) (length (t .duties))) h) (f .duties)
 
--- a duty's record reads as the duty
+-- a duty's record is of its kind
 pub duty-kind : (x : Duty) (b : List ℕ) (at : ℕ) → Holds b at (dutyBytes x) → stands b at 2 dutyLength ≡ true
 unfolding dutyBytes
 duty-kind x b at h = stands-there 2 dutyLength (digits 4 (x .service) ++ digits 4 (x .period)) (simp (length-append, length-digits)) h
 
+-- and reads as the duty
 pub duty-read : (x : Duty) (b : List ℕ) (at : ℕ) → Holds b at (dutyBytes x) → DutyFits x → dutyIn b at ≡ x
 unfolding dutyBytes dutyIn
 duty-read x b at h f =
@@ -85,13 +92,14 @@ duty-read x b at h f =
       holds-num 4 (x .period) (holds-at (at + length (2 ∷ digits 4 (x .service))) (at + 5) (simp length-digits) (holds-right (2 ∷ digits 4 (x .service)) (digits 4 (x .period)) h)) (f .period),
     )
 
--- a run's record reads as the run
+-- a run's record is of its kind
 pub run-kind : (w : Width) (x : Run) (b : List ℕ) (at : ℕ) → Holds b at (runBytes w x) → stands b at (w .runKind) (runLength w) ≡ true
 unfolding runBytes
 run-kind w x b at h =
     stands-there (w .runKind) (runLength w) (digits 1 (x .row .0) ++ digits (w .dutyField) (x .duty) ++ digits 4 (x .first) ++ digits 4 (x .length))
     (simp (length-append, length-digits) (omega arith)) h
 
+-- and reads as the run
 pub run-read : (w : Width) (x : Run) (b : List ℕ) (at : ℕ) → Holds b at (runBytes w x) → RunFits w x → runIn w b at ≡ x
 unfolding runBytes runIn
 run-read w x b at h f =
@@ -108,11 +116,12 @@ run-read w x b at h f =
       holds-num 4 (x .length) (holds-at (at + length (a ++ c ++ d)) (at + 6 + w .dutyField) (simp (length-append, length-digits) (omega arith)) (holds-right (a ++ c ++ d) e h)) (f .length),
     )
 
--- the end record reads as the number of runs
+-- the end record is of its kind
 pub end-kind : (n : ℕ) (b : List ℕ) (at : ℕ) → Holds b at (endBytes n) → stands b at 4 endLength ≡ true
 unfolding endBytes
 end-kind n b at h = stands-there 4 endLength (digits 2 n) (simp length-digits) h
 
+-- and reads as the number of runs
 pub end-read : (n : ℕ) (b : List ℕ) (at : ℕ) → Holds b at (endBytes n) → n < 256 ^ 2 → numAt 2 b (at + 1) ≡ n
 unfolding endBytes
 end-read n b at h f = holds-num 2 n (holds-right (4 ∷ []) (digits 2 n) h) f

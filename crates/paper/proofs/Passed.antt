@@ -72,7 +72,8 @@ duty-told b at h =
     )
 
 -- a run's record that passed
-pub run-told : (w : Width) (b : List ℕ) (at : ℕ) → runGood w b at ≡ true → Standing b at (w .runKind) (runLength w) × RunRanged (ticksIn b) (enginesIn b) (dutiesIn w b) (runIn w b at)
+pub run-told : (w : Width) (b : List ℕ) (at : ℕ) → runGood w b at ≡ true
+    → Standing b at (w .runKind) (runLength w) × RunRanged (ticksIn b) (enginesIn b) (dutiesIn w b) (runIn w b at)
 unfolding runGood
 run-told w b at h =
     let s = stands b at (w .runKind) (runLength w) in

@@ -26,16 +26,18 @@ use Rattle.paper.proofs.Passed.{Standing, HeadTold, head-told, duty-tol
 
 -- ---- each record written again
 
--- the kind's byte, and a field after what stands before it
+-- the kind's byte
 kind-part : (b : List ℕ) (at kind size : ℕ) → Standing b at kind size → 1 ≤ size → kind ∷ [] ≡ take 1 (drop at b)
 kind-part b at kind size s h = rw (← s .kind-is) (cut-cons b at 0 (omega (arith, s .room)))
 
+-- a field written again after what stands before it is one part with it
 field-part :
     (b p : List ℕ) (at m k place : ℕ) → AreBytes b → p ≡ take m (drop at b) → at + m ≡ place → place + k ≤ length b
     → p ++ digits k (numAt k b place) ≡ take (m + k) (drop at b)
 field-part b p at m k place y e q l = rw (digits-numAt k b place y l, e, ← q) (cut-join b at m k)
 
 module _ (w : Width) (b : List ℕ) (y : AreBytes b) where
+  -- the head
   head-again :
       HeadTold w b → w .headKind ∷ digits 4 (ticksIn b) ++ digits 1 (enginesIn b) ++ digits (w .dutyField) (dutiesIn w b) ≡ take (headLength w) (drop 0 b)
   head-again h =
@@ -44,6 +46,7 @@ module _ (w : Width) (b : List ℕ) (y : AreBytes b) where
       (field-part b (w .headKind ∷ []) 0 1 4 1 y (kind-part b 0 (w .headKind) (headLength w) (h .here) (omega arith)) (omega arith) (omega (arith, h .here .room)))
       (omega arith) (omega (arith, h .here .room))) (omega arith) (omega (arith, h .here .room))
 
+  -- a duty's record
   duty-again : (at : ℕ) → Standing b at 2 dutyLength → dutyBytes (dutyIn b at) ≡ take dutyLength (drop at b)
   unfolding dutyBytes dutyIn
   duty-again at h =
@@ -51,6 +54,7 @@ module _ (w : Width) (b : List ℕ) (y : AreBytes b) where
       (field-part b (2 ∷ []) at 1 4 (at + 1) y (kind-part b at 2 dutyLength h (omega arith)) (omega arith) (omega (arith, h .room)))
       (omega arith) (omega (arith, h .room))
 
+  -- a run's record
   run-again : (at : ℕ) → Standing b at (w .runKind) (runLength w) → runBytes w (runIn w b at) ≡ take (runLength w) (drop at b)
   unfolding runBytes runIn
   run-again at h =
@@ -60,6 +64,7 @@ module _ (w : Width) (b : List ℕ) (y : AreBytes b) where
       let p3 = field-part b _ at (2 + f) 4 (at + 2 + f) y p2 (omega arith) (omega (arith, h .room)) in
       field-part b _ at (2 + f + 4) 4 (at + 6 + f) y p3 (omega arith) (omega (arith, h .room)) ∙ cut-same b (2 + f + 4 + 4) (runLength w) at at (omega arith) refl
 
+  -- the end record
   end-again : (at n : ℕ) → Standing b at 4 endLength → numAt 2 b (at + 1) ≡ n → endBytes n ≡ take endLength (drop at b)
   unfolding endBytes
   end-again at n h e =
@@ -78,6 +83,7 @@ pub record Formed (w : Width) (b : List ℕ) (n k : ℕ) : Type 0 where
   pub last : Standing b (runPlace w n k) 4 endLength × (numAt 2 b (runPlace w n k + 1) ≡ k)
   pub no-more : length b ≤ runPlace w n k + endLength
 
+-- an answer determines what is answered
 answer-one : {A : Type 0} (x y : A) → answer x ≡ answer y → x ≡ y
 answer-one x y e = cc
 
@@ -140,7 +146,16 @@ formed-encode w b n k y f =
     let r = runLength w * k in
     let duties = cut-flat b dutyBytes dutyLength n (λ i. dutyIn b (dutyPlace w i)) h (λ i l. duty-again w b y (dutyPlace w i) (f .each-duty i l .0)) in
     let runs = cut-flat b (runBytes w) (runLength w) k (λ j. runIn w b (runPlace w n j)) (h + d) (λ j l. run-again w b y (runPlace w n j) (f .each-run j l .0)) in
-    rw (head-formed w b n k y f, duties, runs, length-tab, end-again w b y (runPlace w n k) k (f .last .0) (f .last .1), ← take-add h d b, ← take-add (h + d) r b, ← take-add (h + d + r) endLength b)
+    rw (
+      head-formed w b n k y f,
+      duties,
+      runs,
+      length-tab,
+      end-again w b y (runPlace w n k) k (f .last .0) (f .last .1),
+      ← take-add h d b,
+      ← take-add (h + d) r b,
+      ← take-add (h + d + r) endLength b,
+    )
     (take-all (h + d + r + endLength) b (f .no-more))
 
 -- ---- bytes and tables determine each other

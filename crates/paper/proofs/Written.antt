@@ -27,6 +27,7 @@ pub record Sound (w : Width) : Type 0 where
   pub runs-fit : w .mostRuns < 256 ^ 2
   pub end-other : w .runKind ≡ 4 → ⊥
 
+-- document 01's widths are so
 pub small-sound : Sound small
 small-sound = record { engines-fit = omega arith; duties-fit = omega arith; runs-fit = omega arith; end-other = λ e. omega arith }
 
@@ -36,44 +37,85 @@ ranged-fits w t s r =
     record {
       head = record { ticks = omega (arith, r .ticks-most); engines = omega (arith, r .engines-most, s .engines-fit); duties = omega (arith, r .duties-most, s .duties-fit) };
       each-duty = λ i h. record { service = omega (arith, r .duty-ranged i h); period = omega (arith, r .duty-ranged i h) };
-      each-run = λ k h. record { row = omega (arith, r .run-ranged k h, r .engines-most, s .engines-fit); duty = omega (arith, r .run-ranged k h, r .duties-most, s .duties-fit); first = omega (arith, r .run-ranged k h, r .ticks-most); length = omega (arith, r .run-ranged k h, r .ticks-most) };
+      each-run = λ k h.
+          record {
+            row = omega (arith, r .run-ranged k h, r .engines-most, s .engines-fit);
+            duty = omega (arith, r .run-ranged k h, r .duties-most, s .duties-fit);
+            first = omega (arith, r .run-ranged k h, r .ticks-most);
+            length = omega (arith, r .run-ranged k h, r .ticks-most);
+          };
       runs = omega (arith, r .runs-most, s .runs-fit);
     }
 
 module _ (w : Width) (t : Table) (s : Sound w) (r : Ranged w t) where
+  -- the table fits its fields
   fits : InFields w t
   fits = ranged-fits w t s r
 
+  -- T in the bytes
   ticks-is : ticksIn (encode w t) ≡ t .ticks
   ticks-is = head-ticks w t (encode w t) (head-stands w t) (fits .head)
 
+  -- the engines in the bytes
   engines-is : enginesIn (encode w t) ≡ t .engines
   engines-is = head-engines w t (encode w t) (head-stands w t) (fits .head)
 
+  -- the number of duties in the bytes
   duties-is : dutiesIn w (encode w t) ≡ length (t .duties)
   duties-is = head-duties w t (encode w t) (head-stands w t) (fits .head)
 
-  -- every record passes its test
+  -- the head passes its test
   head-passes : headGood w (encode w t) ≡ true
   unfolding headGood
   head-passes =
-      rw (head-kind w t (encode w t) (head-stands w t), ticks-is, engines-is, duties-is, le-leb 1 (t .ticks) (r .ticks-least), le-leb (t .ticks) mostTicks (r .ticks-most), le-leb 1 (t .engines) (r .engines-least), le-leb (t .engines) (w .mostEngines) (r .engines-most), le-leb 1 (length (t .duties)) (r .duties-least), le-leb (length (t .duties)) (w .mostDuties) (r .duties-most))
+      rw (
+        head-kind w t (encode w t) (head-stands w t),
+        ticks-is,
+        engines-is,
+        duties-is,
+        le-leb 1 (t .ticks) (r .ticks-least),
+        le-leb (t .ticks) mostTicks (r .ticks-most),
+        le-leb 1 (t .engines) (r .engines-least),
+        le-leb (t .engines) (w .mostEngines) (r .engines-most),
+        le-leb 1 (length (t .duties)) (r .duties-least),
+        le-leb (length (t .duties)) (w .mostDuties) (r .duties-most),
+      )
 
+  -- so does each duty's
   duty-passes : (d : ℕ) → d < length (t .duties) → dutyGood (encode w t) (dutyPlace w d) ≡ true
   unfolding dutyGood
   duty-passes d h =
       let x = dutyAt (t .duties) d in
       let g = r .duty-ranged d h in
-      rw (duty-kind x (encode w t) (dutyPlace w d) (duty-stands w t d h), duty-read x (encode w t) (dutyPlace w d) (duty-stands w t d h) (fits .each-duty d h), le-leb 1 (x .period) (g .period-least), le-leb (x .period) mostTicks (g .period-most), le-leb 1 (x .service) (g .service-least), le-leb (x .service) (x .period) (g .service-most))
+      rw (
+        duty-kind x (encode w t) (dutyPlace w d) (duty-stands w t d h),
+        duty-read x (encode w t) (dutyPlace w d) (duty-stands w t d h) (fits .each-duty d h),
+        le-leb 1 (x .period) (g .period-least),
+        le-leb (x .period) mostTicks (g .period-most),
+        le-leb 1 (x .service) (g .service-least),
+        le-leb (x .service) (x .period) (g .service-most),
+      )
 
+  -- each run's
   run-passes : (k : ℕ) → k < length (t .runs) → runGood w (encode w t) (runPlace w (length (t .duties)) k) ≡ true
   unfolding runGood
   run-passes k h =
       let x = runAt (t .runs) k in
       let at = runPlace w (length (t .duties)) k in
       let g = r .run-ranged k h in
-      rw (run-kind w x (encode w t) at (run-stands w t k h), ticks-is, engines-is, duties-is, run-read w x (encode w t) at (run-stands w t k h) (fits .each-run k h), lt-ltb (x .row .0) (t .engines) (g .row-below), lt-ltb (x .duty) (length (t .duties)) (g .duty-below), le-leb 1 (x .length) (g .some-units), le-leb (stop x) (t .ticks) (g .inside))
+      rw (
+        run-kind w x (encode w t) at (run-stands w t k h),
+        ticks-is,
+        engines-is,
+        duties-is,
+        run-read w x (encode w t) at (run-stands w t k h) (fits .each-run k h),
+        lt-ltb (x .row .0) (t .engines) (g .row-below),
+        lt-ltb (x .duty) (length (t .duties)) (g .duty-below),
+        le-leb 1 (x .length) (g .some-units),
+        le-leb (stop x) (t .ticks) (g .inside),
+      )
 
+  -- and the end record
   end-passes : endGood (encode w t) (runPlace w (length (t .duties)) (length (t .runs))) (length (t .runs)) ≡ true
   unfolding endGood
   end-passes =
@@ -93,11 +135,12 @@ module _ (w : Width) (t : Table) (s : Sound w) (r : Ranged w t) where
       no-and true b = refl
       no-and false b = refl
 
-  -- so no duty record is bad and all runs are read, no more
+  -- so no duty record is bad
   no-bad-duty : badDuty w (encode w t) (length (t .duties)) ≡ length (t .duties)
   unfolding badDuty
   no-bad-duty = first-none (λ d. not (dutyGood (encode w t) (dutyPlace w d))) (length (t .duties)) (λ d h. ap not (duty-passes d h))
 
+  -- and all runs are read, no more
   all-runs : goodRuns w (encode w t) (length (t .duties)) ≡ length (t .runs)
   unfolding goodRuns
   all-runs =
@@ -112,4 +155,13 @@ module _ (w : Width) (t : Table) (s : Sound w) (r : Ranged w t) where
   parse-encode =
       let n = length (t .duties) in
       let k = length (t .runs) in
-      rw (head-passes, duties-is, no-bad-duty, le-ltb n n (omega arith), all-runs, end-passes, le-ltb (runPlace w n k + endLength) (length (encode w t)) (omega (arith, length-encode w t)), table-read w t fits)
+      rw (
+        head-passes,
+        duties-is,
+        no-bad-duty,
+        le-ltb n n (omega arith),
+        all-runs,
+        end-passes,
+        le-ltb (runPlace w n k + endLength) (length (encode w t)) (omega (arith, length-encode w t)),
+        table-read w t fits,
+      )
