@@ -1,14 +1,15 @@
--- A table's bytes: how long they are, and which record stands where. Records of one kind are equally long, so the place
+-- A table's bytes: how long they are, which record stands where, and that they are bytes. Records of one kind are equally long, so the place
 -- of each is computed from its number.
 -- Assumes nothing.
 use Prim.Native.Nat.{ℕ, _+_, _*_, _<_}
 use mathlib.Core.Path.{_≡_, _∙_}
-use mathlib.Core.List.{List, _++_}
+use mathlib.Core.List.{List, _∷_, _++_}
 use native.Mathlib.Omega.{arith}
 use lib.ListN.{length, length-append}
 use Rattle.laws.specs.Lists.{flat}
+use Rattle.laws.specs.Digits.{digits}
 use Rattle.laws.proofs.Lists.{length-flat}
-use Rattle.laws.proofs.Digits.{length-digits}
+use Rattle.laws.proofs.Digits.{AreBytes, length-digits, digits-bytes, bytes-append, bytes-cons, bytes-flat}
 use Rattle.laws.proofs.Parts.{Holds, holds-all, holds-at, holds-left, holds-right, holds-flat}
 use Rattle.paper.specs.declared.Duty.{Duty}
 use Rattle.paper.specs.declared.Run.{Run}
@@ -99,3 +100,49 @@ unfolding encode
 end-stands w t =
     holds-at (0 + length (body w t)) (runPlace w (length (t .duties)) (length (t .runs))) (omega (arith, length-body w t))
     (holds-right (body w t) (endBytes (length (t .runs))) (holds-all (encode w t)))
+
+-- ---- they are bytes
+
+-- the head's, where its kind is a byte
+head-bytes : (w : Width) (t : Table) → w .headKind < 256 → AreBytes (headBytes w t)
+unfolding headBytes
+head-bytes w t h =
+    bytes-append (w .headKind ∷ digits 4 (t .ticks) ++ digits 1 (t .engines)) (digits (w .dutyField) (length (t .duties)))
+    (bytes-append (w .headKind ∷ digits 4 (t .ticks)) (digits 1 (t .engines))
+    (bytes-cons (w .headKind) (digits 4 (t .ticks)) h (digits-bytes 4 (t .ticks))) (digits-bytes 1 (t .engines)))
+    (digits-bytes (w .dutyField) (length (t .duties)))
+
+-- a duty's
+duty-bytes : (x : Duty) → AreBytes (dutyBytes x)
+unfolding dutyBytes
+duty-bytes x =
+    bytes-append (2 ∷ digits 4 (x .service)) (digits 4 (x .period))
+    (bytes-cons 2 (digits 4 (x .service)) (omega arith) (digits-bytes 4 (x .service))) (digits-bytes 4 (x .period))
+
+-- a run's, where its kind is a byte
+run-bytes : (w : Width) (x : Run) → w .runKind < 256 → AreBytes (runBytes w x)
+unfolding runBytes
+run-bytes w x h =
+    let a = w .runKind ∷ digits 1 (x .row .0) in
+    let c = digits (w .dutyField) (x .duty) in
+    let d = digits 4 (x .first) in
+    bytes-append (a ++ c ++ d) (digits 4 (x .length))
+    (bytes-append (a ++ c) d
+    (bytes-append a c (bytes-cons (w .runKind) (digits 1 (x .row .0)) h (digits-bytes 1 (x .row .0))) (digits-bytes (w .dutyField) (x .duty)))
+    (digits-bytes 4 (x .first)))
+    (digits-bytes 4 (x .length))
+
+-- the end record's
+end-bytes : (n : ℕ) → AreBytes (endBytes n)
+unfolding endBytes
+end-bytes n = bytes-cons 4 (digits 2 n) (omega arith) (digits-bytes 2 n)
+
+-- and all of them
+pub encode-bytes : (w : Width) (t : Table) → w .headKind < 256 → w .runKind < 256 → AreBytes (encode w t)
+unfolding encode
+encode-bytes w t h r =
+    bytes-append (body w t) (endBytes (length (t .runs)))
+    (bytes-append (front w t) (flat (runBytes w) (t .runs))
+    (bytes-append (headBytes w t) (flat dutyBytes (t .duties)) (head-bytes w t h) (bytes-flat dutyBytes duty-bytes (t .duties)))
+    (bytes-flat (runBytes w) (λ x. run-bytes w x r) (t .runs)))
+    (end-bytes (length (t .runs)))

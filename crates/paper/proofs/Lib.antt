@@ -16,3 +16,4 @@ pub mod Fields
 pub mod Written
 pub mod Passed
 pub mod Read
+pub mod Sa1Accepted
