@@ -11,3 +11,9 @@ pub mod Rules
 pub mod Accepted
 pub mod Units
 pub mod Service
+pub mod Bytes
+pub mod Fields
+pub mod Written
+pub mod Passed
+pub mod Read
+pub mod Sa1Accepted
