@@ -8,3 +8,4 @@ pub mod Builder
 pub mod Rules
 pub mod Statements
 pub mod Answers
+pub mod Cases
