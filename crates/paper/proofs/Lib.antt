@@ -9,3 +9,4 @@ pub mod Sa1Shares
 pub mod Sa1Table
 pub mod Rules
 pub mod Accepted
+pub mod CasesHold

@@ -7,6 +7,7 @@ use lib.Dec.{eqb}
 use lib.ListN.{length, getD}
 use Rattle.laws.specs.Choice.{pick}
 use Rattle.laws.specs.Lists.{tab}
+use Rattle.laws.proofs.Each.{Each}
 use Rattle.paper.specs.declared.Duty.{Duty}
 use Rattle.paper.specs.declared.Run.{Run}
 use Rattle.paper.specs.declared.Held.{Held}
@@ -87,14 +88,9 @@ pub record Case : Type 0 where
 abbrev pub outcome : Case → Outcome Table
 outcome c = plan (c .engines) (map (λ x. x .service) (c .duties)) (map (λ x. x .period) (c .duties))
 
--- all facts of a list hold
-abbrev pub AllSay : Outcome Table → List Fact → Type 0
-AllSay o [] = Unit
-AllSay o (f ∷ fs) = Says o f × AllSay o fs
-
 -- all that is stated of a set holds
 abbrev pub Holds : Case → Type 0
-Holds c = AllSay (outcome c) (c .facts)
+Holds c = Each (Says (outcome c)) (c .facts)
 
 -- ---- the table
 
