@@ -17,3 +17,4 @@ pub mod Written
 pub mod Passed
 pub mod Read
 pub mod Sa1Accepted
+pub mod CasesHold
