@@ -10,3 +10,4 @@ pub mod Sa1Table
 pub mod Rules
 pub mod Accepted
 pub mod CasesHold
+pub mod Whole
