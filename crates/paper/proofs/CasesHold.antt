@@ -43,13 +43,33 @@ abbrev t7 : Table
 t7 = record { ticks = 3; engines = 2; duties = p7 .duties; runs = run 0 0 0 1 ∷ run 0 1 1 2 ∷ run 1 1 0 1 ∷ run 1 2 1 1 ∷ [] }
 
 abbrev t8 : Table
-t8 = record { ticks = 10; engines = 4; duties = p8 .duties; runs = run 0 0 0 7 ∷ run 0 1 7 3 ∷ run 1 1 0 1 ∷ run 1 2 1 5 ∷ run 1 3 6 4 ∷ run 2 4 0 2 ∷ run 2 5 2 7 ∷ run 2 6 9 1 ∷ run 3 6 0 1 ∷ run 3 7 1 9 ∷ [] }
+t8 =
+    record {
+      ticks = 10;
+      engines = 4;
+      duties = p8 .duties;
+      runs =
+          run 0 0 0 7 ∷ run 0 1 7 3
+          ∷ run 1 1 0 1 ∷ run 1 2 1 5 ∷ run 1 3 6 4
+          ∷ run 2 4 0 2 ∷ run 2 5 2 7 ∷ run 2 6 9 1
+          ∷ run 3 6 0 1 ∷ run 3 7 1 9 ∷ [];
+    }
 
 abbrev t9 : Table
-t9 = record { ticks = 4; engines = 3; duties = p9 .duties; runs = run 0 0 0 3 ∷ run 0 1 3 1 ∷ run 1 1 0 2 ∷ run 1 2 2 2 ∷ run 2 2 0 1 ∷ run 2 3 1 3 ∷ [] }
+t9 =
+    record {
+      ticks = 4;
+      engines = 3;
+      duties = p9 .duties;
+      runs =
+          run 0 0 0 3 ∷ run 0 1 3 1
+          ∷ run 1 1 0 2 ∷ run 1 2 2 2
+          ∷ run 2 2 0 1 ∷ run 2 3 1 3 ∷ [];
+    }
 
 -- the builder makes them ..
-made : (outcome p1 ≡ answer t1) × (outcome p2 ≡ answer t2) × (outcome p3 ≡ answer t3) × (outcome p6 ≡ answer t6) × (outcome p7 ≡ answer t7) × (outcome p8 ≡ answer t8) × (outcome p9 ≡ answer t9)
+made : (outcome p1 ≡ answer t1) × (outcome p2 ≡ answer t2) × (outcome p3 ≡ answer t3) × (outcome p6 ≡ answer t6)
+    × (outcome p7 ≡ answer t7) × (outcome p8 ≡ answer t8) × (outcome p9 ≡ answer t9)
 unfolding plan planDuties planAt badRange badSlice sa1 lay layOne rowAfter unitAfter slice whole blockLengthOf gcdOf gcd euclid dutiesOf tab sumOf first
 made = (refl, refl, refl, refl, refl, refl, refl)
 
@@ -61,7 +81,8 @@ not-made = (refl, refl, refl)
 -- ---- their loads
 
 -- in the first block and in the first two
-first-two : (loads t1 1 ≡ 4) × (loads t1 2 ≡ 4 + 3) × (loads t2 1 ≡ 1) × (loads t2 2 ≡ 1 + 0) × (loads t3 1 ≡ 2) × (loads t3 2 ≡ 2 + 2) × (loads t6 1 ≡ 2) × (loads t6 2 ≡ 2 + 1) × (loads t8 1 ≡ 10) × (loads t8 2 ≡ 10 + 8)
+first-two : (loads t1 1 ≡ 4) × (loads t1 2 ≡ 4 + 3) × (loads t2 1 ≡ 1) × (loads t2 2 ≡ 1 + 0) × (loads t3 1 ≡ 2) × (loads t3 2 ≡ 2 + 2)
+    × (loads t6 1 ≡ 2) × (loads t6 2 ≡ 2 + 1) × (loads t8 1 ≡ 10) × (loads t8 2 ≡ 10 + 8)
 unfolding loads loadsIn load walk rowAt nextOf firstOf link heldIn covers same sumTo
 first-two = (refl, refl, refl, refl, refl, refl, refl, refl, refl, refl)
 

@@ -18,3 +18,4 @@ pub mod Passed
 pub mod Read
 pub mod Sa1Accepted
 pub mod CasesHold
+pub mod Whole

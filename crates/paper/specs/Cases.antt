@@ -1,6 +1,6 @@
 -- Document 01, "Sets to prove and sets to run": P1 to P10, what the document states of each, and what the statements mean.
 -- `proofs/CasesHold.antt` shows that all of them hold.
-use Prim.Native.Nat.{ℕ, _+_, _<_}
+use Prim.Native.Nat.{ℕ, _+_}
 use mathlib.Core.Path.{_≡_}
 use mathlib.Core.List.{List, [], _∷_, map}
 use lib.Dec.{eqb}
@@ -8,11 +8,13 @@ use lib.ListN.{length, getD}
 use Rattle.laws.specs.Choice.{pick}
 use Rattle.laws.specs.Lists.{tab}
 use Rattle.laws.proofs.Each.{Each}
+use Rattle.paper.specs.declared.Row.{Row}
+use Rattle.paper.specs.declared.Engine.{Engine}
 use Rattle.paper.specs.declared.Duty.{Duty}
 use Rattle.paper.specs.declared.Run.{Run}
 use Rattle.paper.specs.declared.Held.{Held}
 use Rattle.paper.specs.declared.Held.the-variants.{Idle, By}
-use Rattle.paper.specs.Words.{engine, duty, run, Table}
+use Rattle.paper.specs.Words.{row, engine, duty, run, Table}
 use Rattle.paper.specs.Sa1.{slices}
 use Rattle.paper.specs.Rotation.{Chain, link, rowAt, chains}
 use Rattle.paper.specs.Schedule.{walk, loads}
@@ -23,27 +25,26 @@ use Rattle.paper.specs.Builder.{plan}
 -- ---- what can be stated of a set
 
 pub data Fact : Type 0 where
-  -- it is refused: number, place
-  refusal : ℕ → ℕ → Fact
-  -- there is a table, and this is its block length, ..
-  blockLength : ℕ → Fact
-  -- its engines and its duties
+  -- it is refused
+  refusal : (number place : ℕ) → Fact
+  -- else there is a table: its block length, engines, duties and their slices
+  blockLength : (ticks : ℕ) → Fact
   engineCount : ℕ → Fact
   dutiesAre : List Duty → Fact
   slicesAre : List ℕ → Fact
   -- how many runs; the runs, in table order; a duty's runs by their lengths
   runCount : ℕ → Fact
   runsAre : List Run → Fact
-  split : ℕ → List ℕ → Fact
+  split : (duty : ℕ) → (lengths : List ℕ) → Fact
   -- the chains, by first row
   chainsAre : List Chain → Fact
   -- loads in block 0, then in each later block; and over a number of blocks
-  loadsThen : ℕ → ℕ → Fact
-  loadsOver : ℕ → ℕ → Fact
+  loadsThen : (first later : ℕ) → Fact
+  loadsOver : (blocks count : ℕ) → Fact
   -- at a tick an engine has a duty, or is idle
-  atTick : ℕ → ℕ → Held → Fact
+  atTick : (tick : ℕ) → Engine → Held → Fact
   -- an engine's rows in blocks 0, 1, 2 and so on
-  engineRows : ℕ → List ℕ → Fact
+  engineRows : Engine → List Row → Fact
   -- the table's bytes
   bytesAre : List ℕ → Fact
 
@@ -75,8 +76,8 @@ Says o (split i ns) = Gives o (λ t. pieces (t .runs) i ≡ ns)
 Says o (chainsAre cs) = Gives o (λ t. chains t ≡ cs)
 Says o (loadsThen a b) = Gives o (λ t. LoadsThen t a b)
 Says o (loadsOver n a) = Gives o (λ t. loads t n ≡ a)
-Says o (atTick k e h) = Gives o (λ t. walk t (engine e) k ≡ h)
-Says o (engineRows e rs) = Gives o (λ t. tab (length rs) (λ b. rowAt (link t) b (engine e) .0) ≡ rs)
+Says o (atTick k e h) = Gives o (λ t. walk t e k ≡ h)
+Says o (engineRows e rs) = Gives o (λ t. tab (length rs) (λ b. rowAt (link t) b e) ≡ rs)
 Says o (bytesAre bs) = Gives o (λ t. encode small t ≡ bs)
 
 pub record Case : Type 0 where
@@ -109,25 +110,20 @@ p1 =
           ∷ runsAre (run 0 0 0 2 ∷ run 0 1 2 1 ∷ run 1 1 0 1 ∷ run 1 2 1 2 ∷ [])
           ∷ chainsAre (chain 0 2 ∷ [])
           ∷ loadsThen 4 3
-          ∷ atTick 5 0 (By 2) ∷ atTick 5 1 (By 1) ∷ [];
+          ∷ atTick 5 (engine 0) (By 2) ∷ atTick 5 (engine 1) (By 1) ∷ [];
     }
 
--- "loads 1, then 0"; "Case P2 in full, 30 bytes"
+-- "Case P2 in full, 30 bytes"
+abbrev p2Bytes : List ℕ
+p2Bytes =
+    1 ∷ 1 ∷ 0 ∷ 0 ∷ 0 ∷ 1 ∷ 1
+    ∷ 2 ∷ 1 ∷ 0 ∷ 0 ∷ 0 ∷ 1 ∷ 0 ∷ 0 ∷ 0
+    ∷ 3 ∷ 0 ∷ 0 ∷ 0 ∷ 0 ∷ 0 ∷ 0 ∷ 1 ∷ 0 ∷ 0 ∷ 0
+    ∷ 4 ∷ 1 ∷ 0 ∷ []
+
+-- "loads 1, then 0"
 abbrev pub p2 : Case
-p2 =
-    record {
-      engines = 1;
-      duties = duty 1 1 ∷ [];
-      facts =
-          loadsThen 1 0
-          ∷ bytesAre (
-          1 ∷ 1 ∷ 0 ∷ 0 ∷ 0 ∷ 1 ∷ 1
-          ∷ 2 ∷ 1 ∷ 0 ∷ 0 ∷ 0 ∷ 1 ∷ 0 ∷ 0 ∷ 0
-          ∷ 3 ∷ 0 ∷ 0 ∷ 0 ∷ 0 ∷ 0 ∷ 0 ∷ 1 ∷ 0 ∷ 0 ∷ 0
-          ∷ 4 ∷ 1 ∷ 0 ∷ []
-          )
-          ∷ [];
-    }
+p2 = record { engines = 1; duties = duty 1 1 ∷ []; facts = loadsThen 1 0 ∷ bytesAre p2Bytes ∷ [] }
 
 -- "loads 2, then 2"
 abbrev pub p3 : Case
@@ -159,7 +155,7 @@ p7 =
       facts =
           split 1 (2 ∷ 1 ∷ [])
           ∷ runsAre (run 0 0 0 1 ∷ run 0 1 1 2 ∷ run 1 1 0 1 ∷ run 1 2 1 1 ∷ [])
-          ∷ atTick 2 1 Idle ∷ [];
+          ∷ atTick 2 (engine 1) Idle ∷ [];
     }
 
 -- "(004, table 1)": "slices 7 4 5 4 2 7 2 9; chains 0-1 and 2-3; loads 10, then 8; 3,362 over 420 blocks"
@@ -181,7 +177,7 @@ p9 =
     record {
       engines = 3;
       duties = duty 3 4 ∷ duty 3 4 ∷ duty 3 4 ∷ duty 3 4 ∷ [];
-      facts = chainsAre (chain 0 3 ∷ []) ∷ engineRows 0 (0 ∷ 1 ∷ 2 ∷ 0 ∷ []) ∷ [];
+      facts = chainsAre (chain 0 3 ∷ []) ∷ engineRows (engine 0) (row 0 ∷ row 1 ∷ row 2 ∷ row 0 ∷ []) ∷ [];
     }
 
 -- "5, duty 0"
