@@ -21,7 +21,8 @@ use Rattle.paper.specs.Schedule.{walk, load, loadsIn, loads}
 use Rattle.paper.specs.Outcome.{refused, answer}
 use Rattle.paper.specs.Bytes.{encode, headBytes, dutyBytes, runBytes, endBytes}
 use Rattle.paper.specs.Builder.{dutiesOf, plan, planDuties, planAt, badRange, badSlice}
-use Rattle.paper.specs.Cases.{Case, Says, LoadsThen, pieces, outcome, Holds, p1, p2, p3, p4, p5, p6, p7, p8, p9, p10, cases, caseAt}
+use Rattle.paper.specs.Text.{planText, printLine, decimalIn}
+use Rattle.paper.specs.Cases.{Case, Says, prints, p1Text, LoadsThen, pieces, outcome, Holds, p1, p2, p3, p4, p5, p6, p7, p8, p9, p10, cases, caseAt}
 use Rattle.paper.proofs.Links.{Closed}
 use Rattle.paper.proofs.Loads.{later, loads-more, loads-closed, later-is}
 
@@ -131,9 +132,14 @@ over8 =
 planned : (c : Case) (t : Table) → outcome c ≡ answer t → Each (Says (answer t)) (c .facts) → Holds c
 planned c t e h = rw e h
 
+-- P1's printed plan, byte by byte
+printed1 : Says (answer t1) (prints p1Text)
+unfolding planText printLine decimalIn flat tab chainsBelow chainLength firstOf loads loadsIn load walk rowAt nextOf link heldIn covers same sumTo
+printed1 = refl
+
 hold1 : Holds p1
 unfolding chainsBelow chainLength sumTo firstOf link heldIn covers same walk rowAt nextOf
-hold1 = planned p1 t1 (made .0) (refl, (refl, (refl, (refl, (refl, (loads1, (refl, (refl, tt))))))))
+hold1 = planned p1 t1 (made .0) (refl, (refl, (refl, (refl, (refl, (loads1, (printed1, (refl, (refl, tt)))))))))
 
 hold2 : Holds p2
 unfolding encode headBytes dutyBytes runBytes endBytes flat digits

@@ -21,6 +21,7 @@ use Rattle.paper.specs.Schedule.{walk, loads}
 use Rattle.paper.specs.Outcome.{Outcome, refused, answer}
 use Rattle.paper.specs.Bytes.{small, encode}
 use Rattle.paper.specs.Builder.{plan}
+use Rattle.paper.specs.Text.{planText}
 
 -- ---- what can be stated of a set
 
@@ -47,6 +48,8 @@ pub data Fact : Type 0 where
   engineRows : Engine → List Row → Fact
   -- the table's bytes
   bytesAre : List ℕ → Fact
+  -- the whole printed plan
+  prints : List ℕ → Fact
 
 -- ---- what it means
 
@@ -79,6 +82,7 @@ Says o (loadsOver n a) = Gives o (λ t. loads t n ≡ a)
 Says o (atTick k e h) = Gives o (λ t. walk t e k ≡ h)
 Says o (engineRows e rs) = Gives o (λ t. tab (length rs) (λ b. rowAt (link t) b e) ≡ rs)
 Says o (bytesAre bs) = Gives o (λ t. encode small t ≡ bs)
+Says o (prints bs) = Gives o (λ t. planText t ≡ bs)
 
 pub record Case : Type 0 where
   pub engines : ℕ
@@ -98,6 +102,21 @@ Holds c = Each (Says (outcome c)) (c .facts)
 abbrev chain : ℕ → ℕ → Chain
 chain r n = record { first = r; length = n }
 
+-- "the output in whole", a line for each of: plan 3 2 3; duty 0 2 3; duty 1 2 3; duty 2 2 3; run 0 0 0 2; run 0 1 2 1; run 1 1 0 1;
+-- run 1 2 1 2; chain 0 2; loads 4 3
+abbrev pub p1Text : List ℕ
+p1Text =
+    112 ∷ 108 ∷ 97 ∷ 110 ∷ 32 ∷ 51 ∷ 32 ∷ 50 ∷ 32 ∷ 51 ∷ 10
+    ∷ 100 ∷ 117 ∷ 116 ∷ 121 ∷ 32 ∷ 48 ∷ 32 ∷ 50 ∷ 32 ∷ 51 ∷ 10
+    ∷ 100 ∷ 117 ∷ 116 ∷ 121 ∷ 32 ∷ 49 ∷ 32 ∷ 50 ∷ 32 ∷ 51 ∷ 10
+    ∷ 100 ∷ 117 ∷ 116 ∷ 121 ∷ 32 ∷ 50 ∷ 32 ∷ 50 ∷ 32 ∷ 51 ∷ 10
+    ∷ 114 ∷ 117 ∷ 110 ∷ 32 ∷ 48 ∷ 32 ∷ 48 ∷ 32 ∷ 48 ∷ 32 ∷ 50 ∷ 10
+    ∷ 114 ∷ 117 ∷ 110 ∷ 32 ∷ 48 ∷ 32 ∷ 49 ∷ 32 ∷ 50 ∷ 32 ∷ 49 ∷ 10
+    ∷ 114 ∷ 117 ∷ 110 ∷ 32 ∷ 49 ∷ 32 ∷ 49 ∷ 32 ∷ 48 ∷ 32 ∷ 49 ∷ 10
+    ∷ 114 ∷ 117 ∷ 110 ∷ 32 ∷ 49 ∷ 32 ∷ 50 ∷ 32 ∷ 49 ∷ 32 ∷ 50 ∷ 10
+    ∷ 99 ∷ 104 ∷ 97 ∷ 105 ∷ 110 ∷ 32 ∷ 48 ∷ 32 ∷ 50 ∷ 10
+    ∷ 108 ∷ 111 ∷ 97 ∷ 100 ∷ 115 ∷ 32 ∷ 52 ∷ 32 ∷ 51 ∷ 10 ∷ []
+
 -- "as above; at tick 5 engine 0 has duty 2, engine 1 duty 1": the printed plan, line by line
 abbrev pub p1 : Case
 p1 =
@@ -110,6 +129,7 @@ p1 =
           ∷ runsAre (run 0 0 0 2 ∷ run 0 1 2 1 ∷ run 1 1 0 1 ∷ run 1 2 1 2 ∷ [])
           ∷ chainsAre (chain 0 2 ∷ [])
           ∷ loadsThen 4 3
+          ∷ prints p1Text
           ∷ atTick 5 (engine 0) (By 2) ∷ atTick 5 (engine 1) (By 1) ∷ [];
     }
 
