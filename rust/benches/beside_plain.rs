@@ -6,12 +6,9 @@
 //! ratio is library over plain Rust, below 1 is faster, with the middle half of the rounds as its spread. The buffers are
 //! written over from round to round and not cleared in between.
 
+#[allow(dead_code)]
 #[path = "../apart/plain.rs"]
 mod plain;
-#[path = "../apart/random.rs"]
-mod random;
-#[path = "../apart/sets.rs"]
-mod sets;
 
 use std::hint::black_box;
 use std::time::Instant;
