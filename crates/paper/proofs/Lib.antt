@@ -7,6 +7,7 @@ pub mod Starts
 pub mod Sa1
 pub mod Sa1Shares
 pub mod Sa1Table
+pub mod Outcomes
 pub mod Rules
 pub mod Accepted
 pub mod Units
@@ -18,3 +19,6 @@ pub mod Passed
 pub mod Read
 pub mod Sa1Accepted
 pub mod CasesHold
+pub mod PlanWhen
+pub mod Planned
+pub mod AcceptedBytes
