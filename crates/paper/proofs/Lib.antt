@@ -22,3 +22,4 @@ pub mod CasesHold
 pub mod PlanWhen
 pub mod Planned
 pub mod AcceptedBytes
+pub mod Listed

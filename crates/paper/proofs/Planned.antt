@@ -39,7 +39,7 @@ block-least ds a r =
 -- ---- the duties of the two lists
 
 -- there are as many
-length-duties : (ss ps : List ℕ) → length (dutiesOf ss ps) ≡ length ss
+pub length-duties : (ss ps : List ℕ) → length (dutiesOf ss ps) ≡ length ss
 unfolding dutiesOf
 length-duties ss ps = length-tab _ _
 
