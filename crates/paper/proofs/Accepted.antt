@@ -162,13 +162,17 @@ read-accepted b t p q = rw p q
 
 -- ---- the block length
 
--- T divides every period. What is proved of accepted tables uses this alone of rule 11
-pub ticks-divides : (t : Table) → Meets t → (i : ℕ) → i < length (t .duties) → t .ticks ∣ dutyAt (t .duties) i .period
+-- it divides every period
+pub block-divides : (ds : List Duty) (i : ℕ) → i < length ds → blockLengthOf ds ∣ dutyAt ds i .period
 unfolding blockLengthOf
-ticks-divides t m i h =
-    let ps = map (λ (x : Duty). x .period) (t .duties) in
-    let d = gcdOf-divides ps i (rw (length-map (t .duties) (λ (x : Duty). x .period)) h) in
-    rw (m .block-length) (rw (List·getD-map (λ (x : Duty). x .period) (t .duties) i (duty 0 0)) at d)
+block-divides ds i h =
+    let ps = map (λ (x : Duty). x .period) ds in
+    let d = gcdOf-divides ps i (rw (length-map ds (λ (x : Duty). x .period)) h) in
+    rw (List·getD-map (λ (x : Duty). x .period) ds i (duty 0 0)) at d
+
+-- so T does. What is proved of accepted tables uses this alone of rule 11
+pub ticks-divides : (t : Table) → Meets t → (i : ℕ) → i < length (t .duties) → t .ticks ∣ dutyAt (t .duties) i .period
+ticks-divides t m i h = rw (m .block-length) (block-divides (t .duties) i h)
 
 -- ---- a table that SA1 does not write
 

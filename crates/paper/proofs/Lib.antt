@@ -7,6 +7,7 @@ pub mod Starts
 pub mod Sa1
 pub mod Sa1Shares
 pub mod Sa1Table
+pub mod Outcomes
 pub mod Rules
 pub mod Accepted
 pub mod Units
@@ -19,3 +20,7 @@ pub mod Read
 pub mod Sa1Accepted
 pub mod CasesHold
 pub mod Whole
+pub mod PlanWhen
+pub mod Planned
+pub mod AcceptedBytes
+pub mod Listed

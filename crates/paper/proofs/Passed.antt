@@ -14,7 +14,7 @@ use Rattle.paper.specs.Bytes.{Width, mostTicks, within, headLength, duty
 use Rattle.paper.specs.Statements.{DutyRanged, RunRanged}
 
 -- a number that passed is from low to high
-within-told : (low high v : ℕ) → within low high v ≡ true → (low ≤ v) × (v ≤ high)
+pub within-told : (low high v : ℕ) → within low high v ≡ true → (low ≤ v) × (v ≤ high)
 within-told low high v h =
     (leb-true low v (and-left (leb low v) (leb v high) h), leb-true v high (and-right (leb low v) (leb v high) h))
 

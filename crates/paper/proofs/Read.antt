@@ -19,6 +19,7 @@ use Rattle.paper.specs.Words.{duty, run, Table}
 use Rattle.paper.specs.Outcome.{answer}
 use Rattle.paper.specs.Bytes.{Width, headBytes, dutyBytes, runBytes, endBytes, encode, headLength, dutyLength, runLength, endLength, dutyPlace, runPlace, ticksIn, enginesIn, dutiesIn, dutyIn, runIn, headGood, dutyGood, runGood, endGood, badDuty, goodRuns, tableIn, afterRuns, afterHead, parse}
 use Rattle.paper.specs.Statements.{DutyRanged, RunRanged, Ranged}
+use Rattle.paper.proofs.Outcomes.{answer-one}
 use Rattle.paper.proofs.Accepted.{past}
 use Rattle.paper.proofs.Fields.{encode-one}
 use Rattle.paper.proofs.Written.{Sound, ranged-fits}
@@ -82,10 +83,6 @@ pub record Formed (w : Width) (b : List ℕ) (n k : ℕ) : Type 0 where
   pub few : k ≤ w .mostRuns
   pub last : Standing b (runPlace w n k) 4 endLength × (numAt 2 b (runPlace w n k + 1) ≡ k)
   pub no-more : length b ≤ runPlace w n k + endLength
-
--- an answer determines what is answered
-answer-one : {A : Type 0} (x y : A) → answer x ≡ answer y → x ≡ y
-answer-one x y e = cc
 
 -- bytes that read as a table are in form, and the table is the one in them
 pub parsed :
