@@ -24,3 +24,6 @@ pub mod PlanWhen
 pub mod Planned
 pub mod AcceptedBytes
 pub mod Listed
+pub mod Asked
+pub mod Demands
+pub mod NotEmpty
