@@ -30,7 +30,9 @@ use Rattle.paper.proofs.AcceptedBytes.{accepted-ranged, accepted-meets,
 use Rattle.paper.proofs.Listed.{Listed, build-listed, judged-listed, question-listed, start-listed, row-listed, next-listed, counted-listed, input-listed}
 use Rattle.paper.proofs.Asked.{advancedBy, question-is, start-is, row-is, row-strange, next-strange, next-all, counted-is}
 
--- ---- Demand 1: whatever is given, a call comes to an answer or to a refusal that document 01 lists for it, and a refusal writes nothing
+-- ---- Demand 1. "Every call takes whatever numbers and bytes arrive, ends, and either answers or refuses with the number document 01 lists. A
+-- ---- refused call changes no byte of the caller's."
+-- That a call takes everything and ends is in its contract, which has no `requires`; here: what the outcomes are.
 
 -- an outcome is an answer or a refusal
 pub settled : {A : Type 0} (o : Outcome A) → ((a : A) × (o ≡ answer a)) ⊎ ((n : ℕ) × (p : ℕ) × (o ≡ refused n p))
@@ -53,8 +55,8 @@ refusals-listed = (build-listed, judged-listed, question-listed, start-listed, r
 pub refusal-writes-nothing : (n p : ℕ) (buffer : List ℕ) → leaves (refused n p) buffer ≡ buffer
 refusal-writes-nothing n p buffer = refl
 
--- ---- Demand 2: the builder's plan is SA1's and comes about exactly when it should; what it writes is accepted; a table is accepted, whoever
--- ---- wrote it, exactly when it meets the rules; and in every accepted table each job gets its service and no duty runs twice at once
+-- ---- Demand 2. "The plan is SA1's; every duty gets exactly its service in each period, no engine two duties in a tick, no duty two engines. A
+-- ---- table is accepted, whoever wrote it, exactly when it meets document 01's rules."
 
 -- the plan is SA1's
 pub plan-sa1 : (m : ℕ) (ss ps : List ℕ) (t : Table) → plan m ss ps ≡ answer t → t ≡ sa1 (blockLengthOf (dutiesOf ss ps)) m (dutiesOf ss ps)
@@ -107,7 +109,8 @@ module _ (b : List ℕ) (t : Table) (h : accepted b ≡ answer t) where
   pub same-engine : (i k e d : ℕ) → walk t (engine e) k ≡ By i → walk t (engine d) k ≡ By i → e ≡ d
   same-engine = one-engine t (meets-serving (accepted-ranged b t h) (accepted-meets b t h))
 
-  -- ---- Demand 3: the question, the dispatcher and the count tell what the walk over the accepted table does, at every tick and block
+  -- ---- Demand 3. "For every accepted table, engine and tick, the direct answer is the one found by walking from block 0 with the published
+  -- ---- rotation; the dispatcher's rows are that walk's; the loads reported equal those counted tick by tick, up to 1,000,000,000,000 blocks."
 
   -- the walk: in block 0 engine i runs row i, and from each block to the next an engine takes the row next in the chain to the one it had;
   -- at a tick it runs what stands on its row at the tick's unit
