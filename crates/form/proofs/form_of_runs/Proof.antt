@@ -1,5 +1,7 @@
 -- `form_of_runs`: after the good runs stands the last record, and nothing after it. Each answer goes by the tests that led to it.
 -- Assumes nothing.
+use Prim.Native.Nat.{_+_}
+use lib.ListN.{length}
 use Rattle.form.proofs.Formed.{reading-in}
 use borrow.Author.Tests.{lt-ltb, le-ltb}
 use Rattle.paper.specs.Bytes.{afterRuns}
@@ -28,14 +30,14 @@ add-t11 c = search needs
 
 returns-2 : tie.Need-returns-2
 unfolding afterRuns
-returns-2 c = rw (← c .before .before .before .before .good-runs .ensures .0, ← c .before .before .before .run-place .ensures, ← c .before .before .end-good .ensures, c .before .if1 .left, lt-ltb _ _ (c .if2 .taken))
+returns-2 c = rw (← c .before .before .before .before .good-runs .ensures .0, ← c .before .before .before .run-place .ensures, ← c .before .before .end-good .ensures, c .before .if1 .left, lt-ltb (c .before .before .before .run-place .result + 3) (length (c .before .before .before .before .before .before .args .b .now)) (search needs))
 
 cast-t12 : tie.Need-cast-t12
 cast-t12 c = search needs
 
 returns-3 : tie.Need-returns-3
 unfolding afterRuns
-returns-3 c = rw (← c .before .before .before .before .good-runs .ensures .0, ← c .before .before .before .run-place .ensures, ← c .before .before .end-good .ensures, c .before .if1 .left, le-ltb _ _ (c .if2 .left), reading-in, c .before .before .before .before .before .before .pre .0, c .before .before .before .before .before .before .pre .1)
+returns-3 c = rw (← c .before .before .before .before .good-runs .ensures .0, ← c .before .before .before .run-place .ensures, ← c .before .before .end-good .ensures, c .before .if1 .left, le-ltb (c .before .before .before .run-place .result + 3) (length (c .before .before .before .before .before .before .args .b .now)) (search needs), reading-in, c .before .before .before .before .before .before .pre .0, c .before .before .before .before .before .before .pre .1)
 
 pub form-of-runs-spec : {M : Type 1} → statement M
 form-of-runs-spec =
