@@ -7,6 +7,7 @@ use Rattle.paper.specs.declared.Reading.{Reading}
 use Rattle.paper.specs.Outcome.{Outcome, refused, answer}
 use Rattle.paper.specs.Bytes.{small, mostTicks, endLength, ticksIn, enginesIn, dutiesIn, goodRuns, dutyPlace, runPlace, dutyIn, runIn, tableIn, parse}
 use Rattle.paper.specs.Statements.{DutyRanged, RunRanged}
+use Rattle.paper.specs.Words.{Table}
 use Rattle.form.specs.declared.Form.{Form}
 use Rattle.form.specs.declared.Form.the-variants.{Good, Fault}
 
@@ -32,3 +33,7 @@ pub record Formed (b : List ℕ) (rd : Reading) : Type 0 where
   pub duty-ranged : (d : ℕ) → d < rd .duties → DutyRanged (dutyIn b (dutyPlace small d))
   pub run-ranged : (k : ℕ) → k < rd .runs → RunRanged (rd .«block_length») (rd .engines) (rd .duties) (runIn small b (runPlace small (rd .duties) k))
   pub parsed : parse small b ≡ answer (tableIn small b (rd .duties) (rd .runs))
+
+-- the table that a reading tells in its bytes
+abbrev pub tableOf : List ℕ → Reading → Table
+tableOf b rd = tableIn small b (rd .duties) (rd .runs)

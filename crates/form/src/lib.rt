@@ -23,8 +23,12 @@ ghost use Rattle.paper.specs.Bytes.{
   parse,
 };
 ghost use Rattle.paper.specs.Rules.{readingOf};
-ghost use Rattle.form.specs.Formed.{formAs};
+ghost use Rattle.paper.specs.Words.{dutyAt, runAt};
+ghost use Rattle.paper.specs.Statements.{DutyRanged, RunRanged};
+ghost use Rattle.form.specs.Formed.{formAs, Formed, tableOf};
+use paper::Duty;
 use paper::Reading;
+use paper::Run;
 use records::read_duty;
 use records::read_four;
 use records::read_one;
@@ -197,4 +201,24 @@ pub fn form_of(b: &[u8]) -> Form
         return Form::Fault(duty_place(d));
     }
     form_of_runs(b, t, engines, duties)
+}
+
+// ---- duties and runs of bytes in good form
+
+// Duty d.
+pub fn duty_of(b: &[u8], rd: Reading, d: usize) -> Duty
+    requires { ⌜ Formed (now b) rd ⌝ }
+    requires { ⌜ d < rd .duties ⌝ }
+    ensures { λ r. ⌜ (r ≡ dutyAt (tableOf (now (b .entry)) rd .duties) d) × DutyRanged r ⌝ }
+{
+    read_duty(b, duty_place(d))
+}
+
+// Run k.
+pub fn run_of(b: &[u8], rd: Reading, k: usize) -> Run
+    requires { ⌜ Formed (now b) rd ⌝ }
+    requires { ⌜ k < rd .runs ⌝ }
+    ensures { λ r. ⌜ (r ≡ runAt (tableOf (now (b .entry)) rd .runs) k) × RunRanged (rd .«block_length») (rd .engines) (rd .duties) r ⌝ }
+{
+    read_run(b, run_place(rd.duties as usize, k))
 }
