@@ -43,7 +43,7 @@ fn block_length_of(b: &[u8], rd: Reading) -> u32
 // The lowest duty with a slice that is not whole, or how many duties there are.
 fn bad_slice(b: &[u8], rd: Reading) -> usize
     requires { ⌜ Formed (now b) rd ⌝ }
-    ensures { λ r. ⌜ r ≡ badSlice (rd .«block_length») (tableOf (now (b .entry)) rd .duties) ⌝ }
+    ensures { λ r. ⌜ r ≡ badSlice (tableOf (now (b .entry)) rd .ticks) (tableOf (now (b .entry)) rd .duties) ⌝ }
 {
     let n = rd.duties as usize;
     let t = rd.block_length;
@@ -191,7 +191,7 @@ fn units_of(b: &[u8], rd: Reading, i: usize) -> u32
 fn is_wrong_sum(b: &[u8], rd: Reading, i: usize) -> bool
     requires { ⌜ Formed (now b) rd ⌝ }
     requires { ⌜ i < rd .duties ⌝ }
-    ensures { λ r. ⌜ r ≡ not (eqb (unitsOf (tableOf (now (b .entry)) rd .runs) i) (slice (rd .«block_length») (dutyAt (tableOf (now (b .entry)) rd .duties) i))) ⌝ }
+    ensures { λ r. ⌜ r ≡ not (eqb (unitsOf (tableOf (now (b .entry)) rd .runs) i) (slice (tableOf (now (b .entry)) rd .ticks) (dutyAt (tableOf (now (b .entry)) rd .duties) i))) ⌝ }
 {
     units_of(b, rd, i) != slice_of(rd.block_length, duty_of(b, rd, i))
 }

@@ -1,3 +1,5 @@
+-- `bad_order`: a search for the first run that is not after its forerunner.
+-- Assumes nothing.
 use Prim.Native.Nat.{_-_}
 use mathlib.Core.Path.{sym, _∙_}
 use borrow.Author.Needs.{needs}
@@ -7,9 +9,6 @@ use Rattle.form.specs.Formed.{tableOf}
 use Rattle.form.proofs.Table.{table-runs}
 use Rattle.rules.proofs.bad_order.Statement.{statement}
 use Rattle.rules.proofs.bad_order.Tie as tie
-use Rattle.rules.proofs.bad_order.Reads as reads
-use Rattle.rules.proofs.bad_order.Lts as lts
-use Rattle.rules.proofs.is_unordered.Reads as is-unordered-reads
 
 abbrev Inv-loop : tie.InvT-loop
 Inv-loop b rd n k₀ k = Seeking (unordered (tableOf b rd .runs)) (rd .runs) k
@@ -17,36 +16,28 @@ Inv-loop b rd n k₀ k = Seeking (unordered (tableOf b rd .runs)) (rd .runs) k
 abbrev μ-loop : tie.MeasureT-loop
 μ-loop b rd n k₀ k = rd .runs - k
 
--- src/lib.rt:84:13
 cast-n : tie.Need-cast-n Inv-loop μ-loop
 cast-n c = search needs
 
--- src/lib.rt:86:5
 loop-holds : tie.Need-loop-holds Inv-loop μ-loop
 loop-holds c = seek-none _ _
 
--- src/lib.rt:87:12
 is-unordered-requires : tie.Need-is-unordered-requires Inv-loop μ-loop
 is-unordered-requires c κs = search needs
 
--- src/lib.rt:88:13
 returns : tie.Need-returns Inv-loop μ-loop
 unfolding badOrder
 returns c = rw (table-runs _ (c .before .before .before .before .before .before .args .rd)) (seek-hit (c .before .before .before .loop .inv) (search needs) (sym (c .before .is-unordered .ensures) ∙ c .if1 .taken))
 
--- src/lib.rt:90:9
 add-k : tie.Need-add-k Inv-loop μ-loop
 add-k c = search needs
 
--- src/lib.rt:86:5
 loop-less : tie.Need-loop-less Inv-loop μ-loop
 loop-less c = search needs
 
--- src/lib.rt:86:5
 loop-again : tie.Need-loop-again Inv-loop μ-loop
 loop-again c = seek-more (c .before .before .before .loop .inv) (search needs) (sym (c .before .is-unordered .ensures) ∙ c .if1 .left)
 
--- src/lib.rt:80:1
 returns-2 : tie.Need-returns-2 Inv-loop μ-loop
 unfolding badOrder
 returns-2 c = rw (table-runs _ (c .before .before .before .before .args .rd)) (seek-miss (c .before .loop .inv) (search needs))

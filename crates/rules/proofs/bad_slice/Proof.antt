@@ -1,3 +1,6 @@
+-- `bad_slice`: a search for the first duty with a slice that is not whole.
+-- Assumes nothing.
+use Rattle.form.proofs.Table.{table-ticks}
 use Prim.Native.Nat.{_-_}
 use mathlib.Core.Bool.{not}
 use borrow.Author.Needs.{needs}
@@ -8,10 +11,6 @@ use Rattle.form.specs.Formed.{tableOf}
 use Rattle.form.proofs.Table.{table-duties}
 use Rattle.rules.proofs.bad_slice.Statement.{statement}
 use Rattle.rules.proofs.bad_slice.Tie as tie
-use Rattle.rules.proofs.bad_slice.Reads as reads
-use Rattle.rules.proofs.bad_slice.Lts as lts
-use Rattle.form.proofs.duty_of.Reads as duty-of-reads
-use Rattle.numbers.proofs.is_whole.Reads as is-whole-reads
 
 abbrev Inv-loop : tie.InvT-loop
 Inv-loop b rd n t d₀ d = Seeking (λ k. not (whole (rd .«block_length») (dutyAt (tableOf b rd .duties) k))) (rd .duties) d
@@ -19,43 +18,34 @@ Inv-loop b rd n t d₀ d = Seeking (λ k. not (whole (rd .«block_length») (dut
 abbrev μ-loop : tie.MeasureT-loop
 μ-loop b rd n t d₀ d = rd .duties - d
 
--- src/lib.rt:42:13
 cast-n : tie.Need-cast-n Inv-loop μ-loop
 cast-n c = search needs
 
--- src/lib.rt:45:5
 loop-holds : tie.Need-loop-holds Inv-loop μ-loop
 loop-holds c = seek-none _ _
 
--- src/lib.rt:46:25
 duty-of-requires : tie.Need-duty-of-requires Inv-loop μ-loop
 duty-of-requires c κs = search needs
 
--- src/lib.rt:46:13
 is-whole-requires : tie.Need-is-whole-requires Inv-loop μ-loop
 is-whole-requires c κs = search needs
 
--- src/lib.rt:47:13
 returns : tie.Need-returns Inv-loop μ-loop
 unfolding badSlice
-returns c = rw (table-duties _ (c .before .before .before .before .before .before .before .args .rd)) (seek-hit (c .before .before .before .before .loop .inv) (search needs) (rw (← c .before .before .duty-of .ensures .0, ← c .before .is-whole .ensures) (c .if1 .taken)))
+returns c = rw (table-duties _ (c .before .before .before .before .before .before .before .args .rd), table-ticks _ _ (c .before .before .before .before .before .before .before .pre)) (seek-hit (c .before .before .before .before .loop .inv) (search needs) (rw (← c .before .before .duty-of .ensures .0, ← c .before .is-whole .ensures) (c .if1 .taken)))
 
--- src/lib.rt:49:9
 add-d : tie.Need-add-d Inv-loop μ-loop
 add-d c = search needs
 
--- src/lib.rt:45:5
 loop-less : tie.Need-loop-less Inv-loop μ-loop
 loop-less c = search needs
 
--- src/lib.rt:45:5
 loop-again : tie.Need-loop-again Inv-loop μ-loop
 loop-again c = seek-more (c .before .before .before .before .loop .inv) (search needs) (rw (← c .before .before .duty-of .ensures .0, ← c .before .is-whole .ensures) (c .if1 .left))
 
--- src/lib.rt:38:1
 returns-2 : tie.Need-returns-2 Inv-loop μ-loop
 unfolding badSlice
-returns-2 c = rw (table-duties _ (c .before .before .before .before .args .rd)) (seek-miss (c .before .loop .inv) (search needs))
+returns-2 c = rw (table-duties _ (c .before .before .before .before .args .rd), table-ticks _ _ (c .before .before .before .before .pre)) (seek-miss (c .before .loop .inv) (search needs))
 
 pub bad-slice-spec : {M : Type 1} → statement M
 bad-slice-spec =

@@ -1,46 +1,49 @@
+-- `bad_sum`: a search for the first duty whose runs do not add up.
+-- Assumes nothing.
+use Prim.Native.Nat.{_-_}
+use mathlib.Core.Path.{sym, _∙_}
+use mathlib.Core.Bool.{not}
+use borrow.Author.Needs.{needs}
+use lib.Dec.{eqb}
+use Rattle.laws.proofs.Search.{Seeking, seek-none, seek-more, seek-hit, seek-miss}
+use Rattle.paper.specs.Words.{slice, dutyAt}
+use Rattle.paper.specs.Rules.{unitsOf, badSum}
+use Rattle.form.specs.Formed.{tableOf}
+use Rattle.form.proofs.Table.{table-duties}
 use Rattle.rules.proofs.bad_sum.Statement.{statement}
 use Rattle.rules.proofs.bad_sum.Tie as tie
-use Rattle.rules.proofs.bad_sum.Reads as reads
-use Rattle.rules.proofs.bad_sum.Lts as lts
-use Rattle.rules.proofs.is_wrong_sum.Reads as is-wrong-sum-reads
 
 abbrev Inv-loop : tie.InvT-loop
-Inv-loop b rd n i₀ i = ?
+Inv-loop b rd n i₀ i = Seeking (λ d. not (eqb (unitsOf (tableOf b rd .runs) d) (slice (tableOf b rd .ticks) (dutyAt (tableOf b rd .duties) d)))) (rd .duties) i
 
 abbrev μ-loop : tie.MeasureT-loop
-μ-loop b rd n i₀ i = ?
+μ-loop b rd n i₀ i = rd .duties - i
 
--- src/lib.rt:204:13
 cast-n : tie.Need-cast-n Inv-loop μ-loop
-cast-n c = ?
+cast-n c = search needs
 
--- src/lib.rt:206:5
 loop-holds : tie.Need-loop-holds Inv-loop μ-loop
-loop-holds c = ?
+loop-holds c = seek-none _ _
 
--- src/lib.rt:207:12
 is-wrong-sum-requires : tie.Need-is-wrong-sum-requires Inv-loop μ-loop
-is-wrong-sum-requires c κs = ?
+is-wrong-sum-requires c κs = search needs
 
--- src/lib.rt:208:13
 returns : tie.Need-returns Inv-loop μ-loop
-returns c = ?
+unfolding badSum
+returns c = rw (table-duties _ (c .before .before .before .before .before .before .args .rd)) (seek-hit (c .before .before .before .loop .inv) (search needs) (sym (c .before .is-wrong-sum .ensures) ∙ c .if1 .taken))
 
--- src/lib.rt:210:9
 add-i : tie.Need-add-i Inv-loop μ-loop
-add-i c = ?
+add-i c = search needs
 
--- src/lib.rt:206:5
 loop-less : tie.Need-loop-less Inv-loop μ-loop
-loop-less c = ?
+loop-less c = search needs
 
--- src/lib.rt:206:5
 loop-again : tie.Need-loop-again Inv-loop μ-loop
-loop-again c = ?
+loop-again c = seek-more (c .before .before .before .loop .inv) (search needs) (sym (c .before .is-wrong-sum .ensures) ∙ c .if1 .left)
 
--- src/lib.rt:200:1
 returns-2 : tie.Need-returns-2 Inv-loop μ-loop
-returns-2 c = ?
+unfolding badSum
+returns-2 c = rw (table-duties _ (c .before .before .before .before .args .rd)) (seek-miss (c .before .loop .inv) (search needs))
 
 pub bad-sum-spec : {M : Type 1} → statement M
 bad-sum-spec =

@@ -1,3 +1,5 @@
+-- `clashes`: a search among the earlier runs.
+-- Assumes nothing.
 use Prim.Native.Nat.{_-_}
 use mathlib.Core.Path.{sym, _∙_}
 use borrow.Author.Needs.{needs}
@@ -7,10 +9,6 @@ use Rattle.form.specs.Formed.{tableOf}
 use Rattle.rules.specs.Clash.{clashOf}
 use Rattle.rules.proofs.clashes.Statement.{statement}
 use Rattle.rules.proofs.clashes.Tie as tie
-use Rattle.rules.proofs.clashes.Reads as reads
-use Rattle.rules.proofs.clashes.Lts as lts
-use Rattle.form.proofs.run_of.Reads as run-of-reads
-use Rattle.rules.proofs.do_clash.Reads as do-clash-reads
 
 abbrev Inv-loop : tie.InvT-loop
 Inv-loop b rd kind k y j₀ j = Seeking (λ i. clashOf kind (runAt (tableOf b rd .runs) i) (runAt (tableOf b rd .runs) k)) k j
@@ -18,39 +16,30 @@ Inv-loop b rd kind k y j₀ j = Seeking (λ i. clashOf kind (runAt (tableOf b rd
 abbrev μ-loop : tie.MeasureT-loop
 μ-loop b rd kind k y j₀ j = k - j
 
--- src/lib.rt:135:9
 run-of-requires : tie.Need-run-of-requires Inv-loop μ-loop
 run-of-requires c κs = search needs
 
--- src/lib.rt:137:5
 loop-holds : tie.Need-loop-holds Inv-loop μ-loop
 loop-holds c = seek-none _ _
 
--- src/lib.rt:138:27
 run-of-requires-2 : tie.Need-run-of-requires-2 Inv-loop μ-loop
 run-of-requires-2 c κs = search needs
 
--- src/lib.rt:138:12
 do-clash-requires : tie.Need-do-clash-requires Inv-loop μ-loop
 do-clash-requires c κs = search needs
 
--- src/lib.rt:139:13
 returns : tie.Need-returns Inv-loop μ-loop
 returns c = sym (seek-any (c .before .before .before .before .loop .inv) (search needs) (rw (← c .before .before .before .before .before .run-of .ensures .0, ← c .before .before .run-of2 .ensures .0) (sym (c .before .do-clash .ensures) ∙ c .if1 .taken)))
 
--- src/lib.rt:141:9
 add-j : tie.Need-add-j Inv-loop μ-loop
 add-j c = search needs
 
--- src/lib.rt:137:5
 loop-less : tie.Need-loop-less Inv-loop μ-loop
 loop-less c = search needs
 
--- src/lib.rt:137:5
 loop-again : tie.Need-loop-again Inv-loop μ-loop
 loop-again c = seek-more (c .before .before .before .before .loop .inv) (search needs) (rw (← c .before .before .before .before .before .run-of .ensures .0, ← c .before .before .run-of2 .ensures .0) (sym (c .before .do-clash .ensures) ∙ c .if1 .left))
 
--- src/lib.rt:128:1
 returns-2 : tie.Need-returns-2 Inv-loop μ-loop
 returns-2 c = sym (seek-not-any (c .before .loop .inv) (search needs))
 

@@ -1,47 +1,36 @@
-use mathlib.Core.Path.{refl}
+-- `do_clash`: of each kind of clash, its test.
+-- Assumes nothing.
 use Rattle.paper.specs.Rules.{overlaps, joins, twice}
 use borrow.Author.Needs.{needs}
 use Rattle.rules.proofs.do_clash.Statement.{statement}
 use Rattle.rules.proofs.do_clash.Tie as tie
-use Rattle.rules.proofs.do_clash.Reads as reads
-use Rattle.rules.proofs.do_clash.Lts as lts
-use Rattle.rules.proofs.do_meet.Reads as do-meet-reads
 
--- src/lib.rt:121:37
 enum-told : tie.Need-enum-told
 enum-told c = search needs
 
--- src/lib.rt:121:37
 do-meet-requires : tie.Need-do-meet-requires
 do-meet-requires c κs = search needs
 
--- src/lib.rt:122:25
 enum-told-2 : tie.Need-enum-told-2
 enum-told-2 c = search needs
 
--- src/lib.rt:122:47
 add-result : tie.Need-add-result
 add-result c = search needs
 
--- src/lib.rt:123:25
 enum-told-3 : tie.Need-enum-told-3
 enum-told-3 c = search needs
 
--- src/lib.rt:123:47
 do-meet-requires-2 : tie.Need-do-meet-requires-2
 do-meet-requires-2 c κs = search needs
 
--- src/lib.rt:114:1
 returns : tie.Need-returns
 unfolding overlaps
 returns c = rw (c .do-meet .ensures, c .before .enum-told .given .1)
 
--- src/lib.rt:114:1
 returns-2 : tie.Need-returns-2
 unfolding joins
 returns-2 c = rw (c .before .before .enum-told2 .given .1)
 
--- src/lib.rt:114:1
 returns-3 : tie.Need-returns-3
 unfolding twice
 returns-3 c = rw (c .do-meet2 .ensures, c .before .enum-told3 .given .1)

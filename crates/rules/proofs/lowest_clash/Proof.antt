@@ -1,46 +1,49 @@
+-- `lowest_clash`: a search for the first run that clashes with an earlier one, whatever the kind.
+-- Assumes nothing.
+use Prim.Native.Nat.{_-_}
+use mathlib.Core.Path.{sym, _∙_}
+use borrow.Author.Needs.{needs}
+use Rattle.laws.specs.Search.{any}
+use Rattle.laws.proofs.Search.{Seeking, seek-none, seek-more, seek-hit, seek-miss}
+use Rattle.paper.specs.Words.{runAt}
+use Rattle.paper.specs.Rules.{lowest}
+use Rattle.form.specs.Formed.{tableOf}
+use Rattle.form.proofs.Table.{table-runs}
+use Rattle.rules.specs.Clash.{clashOf}
 use Rattle.rules.proofs.lowest_clash.Statement.{statement}
 use Rattle.rules.proofs.lowest_clash.Tie as tie
-use Rattle.rules.proofs.lowest_clash.Reads as reads
-use Rattle.rules.proofs.lowest_clash.Lts as lts
-use Rattle.rules.proofs.clashes.Reads as clashes-reads
 
 abbrev Inv-loop : tie.InvT-loop
-Inv-loop b rd kind n k₀ k = ?
+Inv-loop b rd kind n k₀ k = Seeking (λ i. any (λ j. clashOf kind (runAt (tableOf b rd .runs) j) (runAt (tableOf b rd .runs) i)) i) (rd .runs) k
 
 abbrev μ-loop : tie.MeasureT-loop
-μ-loop b rd kind n k₀ k = ?
+μ-loop b rd kind n k₀ k = rd .runs - k
 
--- src/lib.rt:155:13
 cast-n : tie.Need-cast-n Inv-loop μ-loop
-cast-n c = ?
+cast-n c = search needs
 
--- src/lib.rt:157:5
 loop-holds : tie.Need-loop-holds Inv-loop μ-loop
-loop-holds c = ?
+loop-holds c = seek-none _ _
 
--- src/lib.rt:158:12
 clashes-requires : tie.Need-clashes-requires Inv-loop μ-loop
-clashes-requires c κs = ?
+clashes-requires c κs = search needs
 
--- src/lib.rt:159:13
 returns : tie.Need-returns Inv-loop μ-loop
-returns c = ?
+unfolding lowest
+returns c = rw (table-runs _ (c .before .before .before .before .before .before .args .rd)) (seek-hit (c .before .before .before .loop .inv) (search needs) (sym (c .before .clashes .ensures) ∙ c .if1 .taken))
 
--- src/lib.rt:161:9
 add-k : tie.Need-add-k Inv-loop μ-loop
-add-k c = ?
+add-k c = search needs
 
--- src/lib.rt:157:5
 loop-less : tie.Need-loop-less Inv-loop μ-loop
-loop-less c = ?
+loop-less c = search needs
 
--- src/lib.rt:157:5
 loop-again : tie.Need-loop-again Inv-loop μ-loop
-loop-again c = ?
+loop-again c = seek-more (c .before .before .before .loop .inv) (search needs) (sym (c .before .clashes .ensures) ∙ c .if1 .left)
 
--- src/lib.rt:151:1
 returns-2 : tie.Need-returns-2 Inv-loop μ-loop
-returns-2 c = ?
+unfolding lowest
+returns-2 c = rw (table-runs _ (c .before .before .before .before .args .rd)) (seek-miss (c .before .loop .inv) (search needs))
 
 pub lowest-clash-spec : {M : Type 1} → statement M
 lowest-clash-spec =

@@ -1,20 +1,16 @@
-use mathlib.Core.Path.{refl}
+-- `units_for`: all units of the run or none, by its duty.
+-- Assumes nothing.
 use borrow.Author.Tests.{eq-eqb, ne-eqb}
 use borrow.Author.Needs.{needs}
 use Rattle.rules.proofs.units_for.Statement.{statement}
 use Rattle.rules.proofs.units_for.Tie as tie
-use Rattle.rules.proofs.units_for.Reads as reads
-use Rattle.rules.proofs.units_for.Lts as lts
 
--- src/lib.rt:168:8
 cast-if1 : tie.Need-cast-if1
 cast-if1 c = search needs
 
--- src/lib.rt:165:1
 returns : tie.Need-returns
 returns c = (rw (eq-eqb _ _ (c .if1 .taken)), search needs)
 
--- src/lib.rt:165:1
 returns-2 : tie.Need-returns-2
 returns-2 c = (rw (ne-eqb _ _ (c .if1 .left)), search needs)
 

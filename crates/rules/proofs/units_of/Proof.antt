@@ -1,5 +1,7 @@
+-- `units_of`: the units so far, with those of the runs that are left, are those of all; a run has at most a million units, so the sum fits.
+-- Assumes nothing.
 use Prim.Native.Nat.{_-_, _+_, _*_, _≤_}
-use mathlib.Core.Path.{_≡_, sym, _∙_}
+use mathlib.Core.Path.{_≡_}
 use native.Mathlib.Omega.{arith}
 use borrow.Author.Needs.{needs}
 use lib.ListN.{drop}
@@ -9,10 +11,6 @@ use Rattle.form.proofs.Table.{table-runs}
 use Rattle.rules.proofs.Through.{units-further, units-finished}
 use Rattle.rules.proofs.units_of.Statement.{statement}
 use Rattle.rules.proofs.units_of.Tie as tie
-use Rattle.rules.proofs.units_of.Reads as reads
-use Rattle.rules.proofs.units_of.Lts as lts
-use Rattle.form.proofs.run_of.Reads as run-of-reads
-use Rattle.rules.proofs.units_for.Reads as units-for-reads
 
 abbrev Inv-loop : tie.InvT-loop
 Inv-loop b rd i n units₀ k₀ units k = (k ≤ rd .runs) × (units + unitsOf (drop k (tableOf b rd .runs)) i ≡ unitsOf (tableOf b rd .runs) i) × (units ≤ 1000000 * k)
@@ -20,42 +18,33 @@ Inv-loop b rd i n units₀ k₀ units k = (k ≤ rd .runs) × (units + unitsOf (
 abbrev μ-loop : tie.MeasureT-loop
 μ-loop b rd i n units₀ k₀ units k = rd .runs - k
 
--- src/lib.rt:176:13
 cast-n : tie.Need-cast-n Inv-loop μ-loop
 cast-n c = search needs
 
--- src/lib.rt:179:5
 loop-holds : tie.Need-loop-holds Inv-loop μ-loop
 loop-holds c = search needs
 
--- src/lib.rt:180:28
 run-of-requires : tie.Need-run-of-requires Inv-loop μ-loop
 run-of-requires c κs = search needs
 
--- src/lib.rt:180:18
 units-for-requires : tie.Need-units-for-requires Inv-loop μ-loop
 units-for-requires c κs = search needs
 
--- src/lib.rt:180:9
 add-units : tie.Need-add-units Inv-loop μ-loop
 add-units c = search needs
 
--- src/lib.rt:181:9
 add-k : tie.Need-add-k Inv-loop μ-loop
 add-k c = search needs
 
--- src/lib.rt:179:5
 loop-less : tie.Need-loop-less Inv-loop μ-loop
 loop-less c = search needs
 
--- src/lib.rt:179:5
 loop-again : tie.Need-loop-again Inv-loop μ-loop
 loop-again c =
     let b = c .before .before .before .before .before .before .args .b .now in
     let rd = c .before .before .before .before .before .before .args .rd in
     omega (arith, table-runs b rd, units-further (tableOf b rd .runs) (c .before .before .before .loop .k) (c .before .before .before .before .before .before .args .i) (omega (arith, table-runs b rd)), rw (c .before .run-of .ensures .0) at (c .units-for .ensures .0), c .before .run-of .ensures .1)
 
--- src/lib.rt:172:1
 returns : tie.Need-returns Inv-loop μ-loop
 returns c =
     let b = c .before .before .before .before .args .b .now in
