@@ -1,3 +1,5 @@
 pub mod Numbers
 pub mod DutyLines
 pub mod EngineLine
+pub mod Lines
+pub mod Reading

@@ -154,3 +154,54 @@ fn faulty(line: usize) -> Taken
         },
     }
 }
+
+// The duties of the lines after the first, which named the engines: of each line its end, then what stands before it.
+// Line i + 2 is that of duty i.
+fn read_duties(b: &[u8], engines: u32) -> Taken
+    ensures { λ r. ⌜ r ≡ asTaken (withEngines engines (dutiesFrom 2 (linesOf (now (b .entry))))) ⌝ }
+{
+    let mut services = [0; 64];
+    let mut periods = [0; 64];
+    let mut i = 0;
+    let mut at = 0;
+    while at < b.len() {
+        let rest = &b[at..];
+        let end = find(rest, 10);
+        let good = (end < rest.len()) & (i < 64) & duty_line_good(&rest[..end]);
+        if !good {
+            return faulty(i + 2);
+        }
+        let x = duty_read(&rest[..end]);
+        services[i] = x.service;
+        periods[i] = x.period;
+        i += 1;
+        at = at + end + 1;
+    }
+    Taken {
+        verdict: Verdict::Read,
+        input: Input {
+            engines,
+            duties: i as u32,
+            services,
+            periods,
+        },
+    }
+}
+
+// Reads what the plan program was given: at most 4,096 bytes, the line of the engines, then the lines of the duties.
+pub fn read_input(b: &[u8]) -> Taken
+    ensures { λ r. ⌜ r ≡ asTaken (input (now (b .entry))) ⌝ }
+{
+    if b.len() > 4096 {
+        return faulty(0);
+    }
+    let end = find(b, 10);
+    if end == b.len() {
+        return faulty(1);
+    }
+    if !engine_line_good(&b[..end]) {
+        return faulty(1);
+    }
+    let engines = engines_read(&b[..end]);
+    read_duties(&b[end + 1..], engines)
+}
