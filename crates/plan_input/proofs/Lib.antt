@@ -3,3 +3,4 @@ pub mod DutyLines
 pub mod EngineLine
 pub mod Lines
 pub mod Reading
+pub mod Told

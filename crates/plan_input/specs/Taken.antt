@@ -1,10 +1,10 @@
 -- What `read_input` hands back for what document 01 makes of the bytes: "It reads standard input, at most 4,096 bytes".
 use Prim.Native.Nat.{ℕ}
 use mathlib.Core.List.{List}
-use lib.ListN.{length}
+use lib.ListN.{length, getD}
 use Rattle.laws.specs.Lists.{tab}
 use Rattle.paper.specs.declared.Duty.{Duty}
-use Rattle.paper.specs.Words.{dutyAt}
+use Rattle.paper.specs.Words.{duty, dutyAt}
 use Rattle.paper.specs.Outcome.{Outcome, refused, answer, andThen}
 use Rattle.paper.specs.Text as text
 use Rattle.plan_input.specs.declared.Input.{Input}
@@ -43,3 +43,11 @@ asTaken (answer i) =
 -- the engines before the duties of the lines after the first
 abbrev pub withEngines : ℕ → Outcome (List Duty) → Outcome text.Input
 withEngines e o = andThen o (λ ds. answer (record { engines = e; duties = ds }))
+
+-- and back: what an answer tells of the bytes
+abbrev pub toldOf : Verdict → Input → Outcome text.Input
+toldOf Read i = answer (record { engines = i .engines; duties = tab (i .duties) (λ k. duty (getD (i .services) k 0) (getD (i .periods) k 0)) })
+toldOf (Fault p) i = refused 9 p
+
+abbrev pub told : Taken → Outcome text.Input
+told t = toldOf (t .verdict) (t .input)
