@@ -15,6 +15,10 @@ use Rattle.builder.specs.declared.Place.{Place}
 abbrev pub placeAfter : ℕ → ℕ → Place → Place
 placeAfter t n p = record { row = row (rowAfter t n (p .row .0) (p .unit)); unit = unitAfter t n (p .unit) }
 
+-- ".. both 0 at first"
+abbrev pub corner : Place
+corner = record { row = row 0; unit = 0 }
+
 -- a duty's runs, and those of all slices, from a place on
 abbrev pub laidAt : ℕ → ℕ → ℕ → Place → List Run
 laidAt t n i p = layOne t n i (p .row .0) (p .unit)
