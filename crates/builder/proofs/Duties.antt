@@ -13,8 +13,9 @@ use lib.ListN.{length, getD, drop, drop-of-length-le, length-map}
 use lib.Seq.{drop-cons}
 use borrow.Author.Tests.{leb-true}
 use Rattle.laws.specs.Divisor.{gcdOf}
+use Rattle.laws.specs.Lists.{tab, sumOf}
 use Rattle.laws.proofs.Divisor.{gcdOf-divides, gcdOf-positive}
-use Rattle.laws.proofs.Lists.{length-tab, getD-tab, map-tab, tab-getD, drop-map, and-left, and-right}
+use Rattle.laws.proofs.Lists.{length-tab, getD-tab, map-tab, tab-getD, drop-map, and-left, and-right, sumOf-step, sumOf-done}
 use Rattle.paper.specs.declared.Duty.{Duty}
 use Rattle.paper.specs.Words.{duty, dutyAt, slice, blockLengthOf}
 use Rattle.paper.specs.Sa1.{slices}
@@ -38,7 +39,7 @@ unfolding dutiesOf blockLengthOf
 block-length-is ss ps e =
     ap gcdOf
     (map-tab (λ x. x .period) (length ss) (λ d. duty (getD ss d 0) (getD ps d 0))
-    ∙ ap (λ (n : ℕ). Rattle.laws.specs.Lists.tab n (λ d. getD ps d 0)) e
+    ∙ ap (λ (n : ℕ). tab n (λ d. getD ps d 0)) e
     ∙ tab-getD ps 0)
 
 -- a duty that passes the test of its range is in range
@@ -64,3 +65,12 @@ slices-left t ds i h =
 
 pub slices-none : (t : ℕ) (ds : List Duty) (i : ℕ) → length ds ≤ i → drop i (slices t ds) ≡ []
 slices-none t ds i h = drop-of-length-le (slices t ds) {i = i} (omega (arith, length-map ds (slice t)))
+
+-- the same of what they add up to
+pub total-left :
+    (t : ℕ) (ds : List Duty) (i : ℕ) → i < length ds
+    → sumOf (drop i (slices t ds)) ≡ slice t (dutyAt ds i) + sumOf (drop (i + 1) (slices t ds))
+total-left t ds i h = ap sumOf (slices-left t ds i h) ∙ sumOf-step (slice t (dutyAt ds i)) (drop (i + 1) (slices t ds))
+
+pub total-none : (t : ℕ) (ds : List Duty) (i : ℕ) → length ds ≤ i → sumOf (drop i (slices t ds)) ≡ 0
+total-none t ds i h = sumOf-done (slices t ds) i (omega (arith, length-map ds (slice t)))

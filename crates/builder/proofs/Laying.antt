@@ -6,7 +6,7 @@ use mathlib.Core.Bool.{Bool, true, false}
 use mathlib.Core.List.{List, [], _∷_, _++_}
 use native.Mathlib.Omega.{arith}
 use lib.Dec.{leb, ltb}
-use lib.ListN.{length, drop}
+use lib.ListN.{length, drop, length-append}
 use borrow.Author.Tests.{le-leb, lt-leb, lt-ltb, le-ltb}
 use Rattle.laws.proofs.Cases.{by-cases}
 use Rattle.paper.specs.declared.Duty.{Duty}
@@ -61,14 +61,27 @@ lay-end : (t i : ℕ) (p : Place) → laidFrom t [] i p ≡ []
 unfolding lay
 lay-end t i p = refl
 
--- what is left to lay at duty i begins with its runs; after the last duty nothing is left
+-- what is left to lay at duty i from place p on: its n units, and from the place q after them what is left at the next duty
 pub lay-left :
-    (t : ℕ) (ds : List Duty) (i : ℕ) (p : Place) → i < length ds
-    → laidFrom t (drop i (slices t ds)) i p
-    ≡ laidAt t (slice t (dutyAt ds i)) i p ++ laidFrom t (drop (i + 1) (slices t ds)) (i + 1) (placeAfter t (slice t (dutyAt ds i)) p)
-lay-left t ds i p h =
-    ap (λ (ns : List ℕ). laidFrom t ns i p) (slices-left t ds i h)
-    ∙ lay-step t (slice t (dutyAt ds i)) (drop (i + 1) (slices t ds)) i p
+    (t n : ℕ) (ds : List Duty) (i : ℕ) (p q : Place) → i < length ds → n ≡ slice t (dutyAt ds i) → q ≡ placeAfter t n p
+    → laidFrom t (drop i (slices t ds)) i p ≡ laidAt t n i p ++ laidFrom t (drop (i + 1) (slices t ds)) (i + 1) q
+lay-left t n ds i p q h e f =
+    ap (λ (ns : List ℕ). laidFrom t ns i p) (slices-left t ds i h ∙ ap (λ (k : ℕ). k ∷ drop (i + 1) (slices t ds)) (sym e))
+    ∙ lay-step t n (drop (i + 1) (slices t ds)) i p
+    ∙ ap (λ (x : Place). laidAt t n i p ++ laidFrom t (drop (i + 1) (slices t ds)) (i + 1) x) (sym f)
 
+-- after the last duty nothing is left
 pub lay-none : (t : ℕ) (ds : List Duty) (i : ℕ) (p : Place) → length ds ≤ i → laidFrom t (drop i (slices t ds)) i p ≡ []
 lay-none t ds i p h = ap (λ (ns : List ℕ). laidFrom t ns i p) (slices-none t ds i h) ∙ lay-end t i p
+
+-- the same by the number of runs
+pub count-left :
+    (t n : ℕ) (ds : List Duty) (i : ℕ) (p q : Place) → i < length ds → n ≡ slice t (dutyAt ds i) → q ≡ placeAfter t n p
+    → length (laidFrom t (drop i (slices t ds)) i p) ≡ runsAt t n (p .unit) + length (laidFrom t (drop (i + 1) (slices t ds)) (i + 1) q)
+count-left t n ds i p q h e f =
+    ap length (lay-left t n ds i p q h e f)
+    ∙ length-append (laidAt t n i p) (laidFrom t (drop (i + 1) (slices t ds)) (i + 1) q)
+    ∙ omega (arith, laid-length t n i p)
+
+pub count-none : (t : ℕ) (ds : List Duty) (i : ℕ) (p : Place) → length ds ≤ i → length (laidFrom t (drop i (slices t ds)) i p) ≡ 0
+count-none t ds i p h = ap length (lay-none t ds i p h)
