@@ -196,7 +196,7 @@ fn put_duty_runs(out: &mut [u8], t: u32, n: u32, i: u32, from: Place) -> usize
         return 11;
     }
     put_run(
-        &mut out[0..],
+        out,
         Run {
             row: Row(row),
             duty: i,

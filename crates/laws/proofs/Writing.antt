@@ -100,3 +100,7 @@ moved {W} {l} {rest} {xs} {a} {b} e r = record { w = r .w; len = r .len ∙ e; i
 -- what is lent from the place a on, to the end
 pub length-lent : (a : ℕ) (xs : List ℕ) → length (take (length xs - a) (drop a xs)) ≡ length xs - a
 length-lent a xs = simp (length-take, length-drop) (omega arith)
+
+-- after a first call that was lent the whole buffer
+pub begun : (l rest p ys : List ℕ) → ys ≡ over p l → Wrote (p ++ rest) l rest ys (length p)
+begun l rest p ys e = record { w = p; len = refl; is = e; left = refl }
