@@ -86,10 +86,10 @@ returns-2 c =
     let p = runBytes small (run (from .row .0) i (from .unit) (t - from .unit)) in
     let q = runBytes small (run (from .row .0 + 1) i 0 (from .unit + n - t)) in (
       done _ out _ _
-      (more (p ++ (q ++ [])) out [] (c .before .before .before .before .before .before .put-run2 .last .0) q (c .before .before .put-run3 .last .0) 11
-      (moved (run-length (run (from .row .0) i (from .unit) (t - from .unit))) (begun out (q ++ []) p _ (c .before .before .before .before .before .before .put-run2 .ensures)))
-      (c .before .before .put-run3 .ensures))
-      ∙ ap (λ (w : List ℕ). over w out) (sym (bytes-split t n i from (search needs))),
+          (more (p ++ (q ++ [])) out [] (c .before .before .before .before .before .before .put-run2 .last .0) q (c .before .before .put-run3 .last .0) 11
+          (moved (run-length (run (from .row .0) i (from .unit) (t - from .unit))) (begun out (q ++ []) p _ (c .before .before .before .before .before .before .put-run2 .ensures)))
+          (c .before .before .put-run3 .ensures))
+          ∙ ap (λ (w : List ℕ). over w out) (sym (bytes-split t n i from (search needs))),
       omega (arith, runs-split t n (from .unit) (search needs)),
     )
 
