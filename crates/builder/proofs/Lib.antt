@@ -1,3 +1,4 @@
 pub mod Duties
 pub mod Laying
 pub mod Lengths
+pub mod Table
