@@ -2,3 +2,4 @@ pub mod Duties
 pub mod Laying
 pub mod Lengths
 pub mod Table
+pub mod Refusals

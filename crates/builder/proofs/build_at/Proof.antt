@@ -1,3 +1,14 @@
+use Prim.Native.Nat.{_+_, _*_}
+use mathlib.Core.Path.{_≡_, refl, sym, ap, _∙_}
+use native.Mathlib.Nat.{mul-le-mul}
+use native.Mathlib.Omega.{arith}
+use lib.ListN.{length}
+use Rattle.paper.specs.Sa1.{sa1}
+use Rattle.paper.specs.Bytes.{small, encode}
+use Rattle.paper.specs.Builder.{dutiesOf}
+use Rattle.builder.proofs.Duties.{duties-length}
+use Rattle.builder.proofs.Table.{sa1-length}
+use Rattle.builder.proofs.Refusals.{refuses, answers, refusal-6, refusal-7, refusal-8, built}
 use borrow.Author.Needs.{needs}
 use Rattle.builder.proofs.build_at.Statement.{statement}
 use Rattle.builder.proofs.build_at.Tie as tie
@@ -14,7 +25,14 @@ bad-slice-requires c κs = search needs
 
 -- src/lib.rt:280:9
 returns : tie.Need-returns
-returns c = ?
+returns c =
+    let t = c .before .before .before .before .before .args .t in
+    let m = c .before .before .before .before .before .args .engines in
+    let ss = c .before .before .before .before .before .args .services .now in
+    let ps = c .before .before .before .before .before .args .periods .now in
+    let ds = dutiesOf ss ps in
+    let room = length (c .before .before .before .before .before .args .out .now) in
+    refuses 6 _ _ (refusal-6 t m ds room _ (c .before .bad-slice .ensures) (omega (arith, duties-length ss ps))) 
 
 -- src/lib.rt:282:9
 total-slices-requires : tie.Need-total-slices-requires
@@ -22,11 +40,18 @@ total-slices-requires c κs = search needs
 
 -- src/lib.rt:283:8
 mul-if2 : tie.Need-mul-if2
-mul-if2 c = ?
+mul-if2 c = omega (arith, mul-le-mul (c .before .before .before .before .before .before .pre .1) (c .before .before .before .before .before .before .pre .0 .ticks-most))
 
 -- src/lib.rt:284:9
 returns-2 : tie.Need-returns-2
-returns-2 c = ?
+returns-2 c =
+    let t = c .before .before .before .before .before .before .before .args .t in
+    let m = c .before .before .before .before .before .before .before .args .engines in
+    let ss = c .before .before .before .before .before .before .before .args .services .now in
+    let ps = c .before .before .before .before .before .before .before .args .periods .now in
+    let ds = dutiesOf ss ps in
+    let room = length (c .before .before .before .before .before .before .before .args .out .now) in
+    refuses 7 0 _ (refusal-7 t m ds room (omega (arith, duties-length ss ps, c .before .before .before .bad-slice .ensures)) (omega (arith, c .before .total-slices .ensures))) 
 
 -- src/lib.rt:286:9
 count-runs-requires : tie.Need-count-runs-requires
@@ -50,11 +75,20 @@ add-needed-2 c = search needs
 
 -- src/lib.rt:289:9
 returns-3 : tie.Need-returns-3
-returns-3 c = ?
+returns-3 c =
+    let t = c .before .before .before .before .before .before .before .before .before .args .t in
+    let m = c .before .before .before .before .before .before .before .before .before .args .engines in
+    let ss = c .before .before .before .before .before .before .before .before .before .args .services .now in
+    let ps = c .before .before .before .before .before .before .before .before .before .args .periods .now in
+    let ds = dutiesOf ss ps in
+    let room = length (c .before .before .before .before .before .before .before .before .before .args .out .now) in
+    let n = 10 + 9 * length ss + 11 * c .before .count-runs .result in
+    let size : length (encode small (sa1 t m ds)) ≡ n = sa1-length t m ds ∙ omega (arith, duties-length ss ps, c .before .count-runs .ensures .0) in
+    refuses 8 n _ (refusal-8 t m ds room n (omega (arith, duties-length ss ps, c .before .before .before .before .before .bad-slice .ensures)) (omega (arith, c .before .before .before .total-slices .ensures)) size (search needs)) 
 
 -- src/lib.rt:291:5
 put-table-requires : tie.Need-put-table-requires
-put-table-requires c κs = ?
+put-table-requires c κs = (c .before .before .before .before .before .before .before .before .before .before .pre .0, c .before .before .count-runs .ensures .0, c .before .before .count-runs .ensures .1, search needs)
 
 -- src/lib.rt:273:1
 same-length : tie.Need-same-length
@@ -62,7 +96,16 @@ same-length c = search needs
 
 -- src/lib.rt:273:1
 returns-4 : tie.Need-returns-4
-returns-4 c = ?
+returns-4 c =
+    let t = c .before .before .before .before .before .before .before .before .before .before .before .before .before .args .t in
+    let m = c .before .before .before .before .before .before .before .before .before .before .before .before .before .args .engines in
+    let ss = c .before .before .before .before .before .before .before .before .before .before .before .before .before .args .services .now in
+    let ps = c .before .before .before .before .before .before .before .before .before .before .before .before .before .args .periods .now in
+    let ds = dutiesOf ss ps in
+    let room = length (c .before .before .before .before .before .before .before .before .before .before .before .before .before .args .out .now) in
+    let n = 10 + 9 * length ss + 11 * c .before .before .before .before .before .count-runs .result in
+    let size : length (encode small (sa1 t m ds)) ≡ n = sa1-length t m ds ∙ omega (arith, duties-length ss ps, c .before .before .before .before .before .count-runs .ensures .0) in
+    answers n (encode small (sa1 t m ds)) _ _ (built t m ds room n (omega (arith, duties-length ss ps, c .before .before .before .before .before .before .before .before .before .bad-slice .ensures)) (omega (arith, c .before .before .before .before .before .before .before .total-slices .ensures)) size (search needs)) size (c .before .before .put-table .ensures)
 
 pub build-at-spec : {M : Type 1} → statement M
 build-at-spec =
