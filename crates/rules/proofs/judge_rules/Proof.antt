@@ -16,7 +16,10 @@ returns : tie.Need-returns
 unfolding judgeTable
 returns c =
     let t = tableOf (c .before .before .before .before .args .b .now) (c .before .before .before .before .args .rd) in
-    rw (← c .before .before .block-length-of .ensures, ne-eqb (t .ticks) (c .before .before .block-length-of .result) (λ e. omega (arith, table-ticks _ _ (c .before .before .before .before .pre))))
+    rw (
+      ← c .before .before .block-length-of .ensures,
+      ne-eqb (t .ticks) (c .before .before .block-length-of .result) (λ e. omega (arith, table-ticks _ _ (c .before .before .before .before .pre))),
+    )
 
 bad-slice-requires : tie.Need-bad-slice-requires
 bad-slice-requires c κs = search needs
@@ -28,7 +31,13 @@ returns-2 : tie.Need-returns-2
 unfolding judgeTable
 returns-2 c =
     let t = tableOf (c .before .before .before .before .before .before .before .args .b .now) (c .before .before .before .before .before .before .before .args .rd) in
-    rw (← c .before .before .before .before .before .block-length-of .ensures, eq-eqb (t .ticks) (c .before .before .before .before .before .block-length-of .result) (omega (arith, table-ticks _ _ (c .before .before .before .before .before .before .before .pre))), table-duties _ (c .before .before .before .before .before .before .before .args .rd), ← c .before .before .bad-slice .ensures, lt-ltb (c .before .before .bad-slice .result) (c .before .before .before .before .before .before .before .args .rd .duties) (search needs))
+    rw (
+      ← c .before .before .before .before .before .block-length-of .ensures,
+      eq-eqb (t .ticks) (c .before .before .before .before .before .block-length-of .result) (omega (arith, table-ticks _ _ (c .before .before .before .before .before .before .before .pre))),
+      table-duties _ (c .before .before .before .before .before .before .before .args .rd),
+      ← c .before .before .bad-slice .ensures,
+      lt-ltb (c .before .before .bad-slice .result) (c .before .before .before .before .before .before .before .args .rd .duties) (search needs),
+    )
 
 judge-runs-requires : tie.Need-judge-runs-requires
 judge-runs-requires c κs = search needs
@@ -37,7 +46,13 @@ returns-3 : tie.Need-returns-3
 unfolding judgeTable
 returns-3 c =
     let t = tableOf (c .before .before .before .before .before .before .before .before .args .b .now) (c .before .before .before .before .before .before .before .before .args .rd) in
-    rw (← c .before .before .before .before .before .before .block-length-of .ensures, eq-eqb (t .ticks) (c .before .before .before .before .before .before .block-length-of .result) (omega (arith, table-ticks _ _ (c .before .before .before .before .before .before .before .before .pre))), table-duties _ (c .before .before .before .before .before .before .before .before .args .rd), ← c .before .before .before .bad-slice .ensures, le-ltb (c .before .before .before .bad-slice .result) (c .before .before .before .before .before .before .before .before .args .rd .duties) (search needs)) (c .judge-runs .ensures)
+    rw (
+      ← c .before .before .before .before .before .before .block-length-of .ensures,
+      eq-eqb (t .ticks) (c .before .before .before .before .before .before .block-length-of .result) (omega (arith, table-ticks _ _ (c .before .before .before .before .before .before .before .before .pre))),
+      table-duties _ (c .before .before .before .before .before .before .before .before .args .rd),
+      ← c .before .before .before .bad-slice .ensures,
+      le-ltb (c .before .before .before .bad-slice .result) (c .before .before .before .before .before .before .before .before .args .rd .duties) (search needs),
+    ) (c .judge-runs .ensures)
 
 pub judge-rules-spec : {M : Type 1} → statement M
 judge-rules-spec =
