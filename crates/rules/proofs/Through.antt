@@ -3,13 +3,14 @@
 -- Assumes nothing.
 use Prim.Native.Nat.{ℕ, zero, suc, _+_, _-_, _≤_, _<_}
 use mathlib.Core.Path.{_≡_, refl, sym}
-use mathlib.Core.Bool.{not}
+use mathlib.Core.Bool.{true, false, not}
 use mathlib.Core.List.{List, _∷_, map}
 use native.Mathlib.Numerals.{add-one}
 use native.Mathlib.Omega.{arith}
-use lib.Dec.{eqb}
+use lib.Dec.{ltb, eqb}
 use lib.ListN.{length, drop, drop-of-length-le, length-map, List·getD-map}
 use lib.Seq.{drop-cons}
+use borrow.Author.Tests.{lt-ltb, le-ltb}
 use Rattle.laws.specs.Choice.{pick}
 use Rattle.laws.specs.Divisor.{gcd, gcdOf}
 use Rattle.laws.proofs.Divisor.{gcd-start, gcd-further, gcd-finished}
@@ -55,3 +56,10 @@ pub unordered-after : (xs : List Run) (k : ℕ) → (k ≡ 0 → ⊥) → unorde
 unfolding unordered
 unordered-after xs zero h = absurd (h refl)
 unordered-after xs (suc k) h = let e : suc k - 1 ≡ k = omega arith in rw (e, add-one)
+
+-- a search that answers r for the place of a rule, with n duties or runs: at n it has found nothing, below it has found the place
+pub found-none : {place count r n : ℕ} → r ≡ place → count ≡ n → n ≤ r → ltb place count ≡ false
+found-none {place} {count} {r} {n} p q h = le-ltb place count (omega arith)
+
+pub found-one : {place count r n : ℕ} → r ≡ place → count ≡ n → r < n → ltb place count ≡ true
+found-one {place} {count} {r} {n} p q h = lt-ltb place count (omega arith)

@@ -1,6 +1,6 @@
 -- `bad_slice`: a search for the first duty with a slice that is not whole.
 -- Assumes nothing.
-use Rattle.form.proofs.Table.{table-ticks}
+use Rattle.form.proofs.Table.{table-ticks, table-duties}
 use Prim.Native.Nat.{_-_}
 use mathlib.Core.Bool.{not}
 use borrow.Author.Needs.{needs}
@@ -8,7 +8,6 @@ use Rattle.laws.proofs.Search.{Seeking, seek-none, seek-more, seek-hit, seek-mi
 use Rattle.paper.specs.Words.{whole, dutyAt}
 use Rattle.paper.specs.Builder.{badSlice}
 use Rattle.form.specs.Formed.{tableOf}
-use Rattle.form.proofs.Table.{table-duties}
 use Rattle.rules.proofs.bad_slice.Statement.{statement}
 use Rattle.rules.proofs.bad_slice.Tie as tie
 
@@ -32,7 +31,11 @@ is-whole-requires c κs = search needs
 
 returns : tie.Need-returns Inv-loop μ-loop
 unfolding badSlice
-returns c = rw (table-duties _ (c .before .before .before .before .before .before .before .args .rd), table-ticks _ _ (c .before .before .before .before .before .before .before .pre)) (seek-hit (c .before .before .before .before .loop .inv) (search needs) (rw (← c .before .before .duty-of .ensures .0, ← c .before .is-whole .ensures) (c .if1 .taken)))
+returns c =
+    rw (
+      table-duties _ (c .before .before .before .before .before .before .before .args .rd),
+      table-ticks _ _ (c .before .before .before .before .before .before .before .pre),
+    ) (seek-hit (c .before .before .before .before .loop .inv) (search needs) (rw (← c .before .before .duty-of .ensures .0, ← c .before .is-whole .ensures) (c .if1 .taken)))
 
 add-d : tie.Need-add-d Inv-loop μ-loop
 add-d c = search needs
@@ -41,11 +44,19 @@ loop-less : tie.Need-loop-less Inv-loop μ-loop
 loop-less c = search needs
 
 loop-again : tie.Need-loop-again Inv-loop μ-loop
-loop-again c = seek-more (c .before .before .before .before .loop .inv) (search needs) (rw (← c .before .before .duty-of .ensures .0, ← c .before .is-whole .ensures) (c .if1 .left))
+loop-again c =
+    seek-more (c .before .before .before .before .loop .inv) (search needs) (rw (
+      ← c .before .before .duty-of .ensures .0,
+      ← c .before .is-whole .ensures,
+    ) (c .if1 .left))
 
 returns-2 : tie.Need-returns-2 Inv-loop μ-loop
 unfolding badSlice
-returns-2 c = rw (table-duties _ (c .before .before .before .before .args .rd), table-ticks _ _ (c .before .before .before .before .pre)) (seek-miss (c .before .loop .inv) (search needs))
+returns-2 c =
+    rw (
+      table-duties _ (c .before .before .before .before .args .rd),
+      table-ticks _ _ (c .before .before .before .before .pre),
+    ) (seek-miss (c .before .loop .inv) (search needs))
 
 pub bad-slice-spec : {M : Type 1} → statement M
 bad-slice-spec =

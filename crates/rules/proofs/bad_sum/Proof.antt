@@ -30,7 +30,9 @@ is-wrong-sum-requires c κs = search needs
 
 returns : tie.Need-returns Inv-loop μ-loop
 unfolding badSum
-returns c = rw (table-duties _ (c .before .before .before .before .before .before .args .rd)) (seek-hit (c .before .before .before .loop .inv) (search needs) (sym (c .before .is-wrong-sum .ensures) ∙ c .if1 .taken))
+returns c =
+    rw (table-duties _ (c .before .before .before .before .before .before .args .rd))
+    (seek-hit (c .before .before .before .loop .inv) (search needs) (sym (c .before .is-wrong-sum .ensures) ∙ c .if1 .taken))
 
 add-i : tie.Need-add-i Inv-loop μ-loop
 add-i c = search needs

@@ -29,7 +29,11 @@ do-clash-requires : tie.Need-do-clash-requires Inv-loop μ-loop
 do-clash-requires c κs = search needs
 
 returns : tie.Need-returns Inv-loop μ-loop
-returns c = sym (seek-any (c .before .before .before .before .loop .inv) (search needs) (rw (← c .before .before .before .before .before .run-of .ensures .0, ← c .before .before .run-of2 .ensures .0) (sym (c .before .do-clash .ensures) ∙ c .if1 .taken)))
+returns c =
+    sym (seek-any (c .before .before .before .before .loop .inv) (search needs) (rw (
+      ← c .before .before .before .before .before .run-of .ensures .0,
+      ← c .before .before .run-of2 .ensures .0,
+    ) (sym (c .before .do-clash .ensures) ∙ c .if1 .taken)))
 
 add-j : tie.Need-add-j Inv-loop μ-loop
 add-j c = search needs
@@ -38,7 +42,11 @@ loop-less : tie.Need-loop-less Inv-loop μ-loop
 loop-less c = search needs
 
 loop-again : tie.Need-loop-again Inv-loop μ-loop
-loop-again c = seek-more (c .before .before .before .before .loop .inv) (search needs) (rw (← c .before .before .before .before .before .run-of .ensures .0, ← c .before .before .run-of2 .ensures .0) (sym (c .before .do-clash .ensures) ∙ c .if1 .left))
+loop-again c =
+    seek-more (c .before .before .before .before .loop .inv) (search needs) (rw (
+      ← c .before .before .before .before .before .run-of .ensures .0,
+      ← c .before .before .run-of2 .ensures .0,
+    ) (sym (c .before .do-clash .ensures) ∙ c .if1 .left))
 
 returns-2 : tie.Need-returns-2 Inv-loop μ-loop
 returns-2 c = sym (seek-not-any (c .before .loop .inv) (search needs))

@@ -24,7 +24,12 @@ is-before-requires : tie.Need-is-before-requires
 is-before-requires c κs = search needs
 
 returns-2 : tie.Need-returns-2
-returns-2 c = rw (c .is-before .ensures, c .before .before .run-of .ensures .0, c .before .run-of2 .ensures .0) (sym (unordered-after _ _ (search needs)))
+returns-2 c =
+    rw (
+      c .is-before .ensures,
+      c .before .before .run-of .ensures .0,
+      c .before .run-of2 .ensures .0,
+    ) (sym (unordered-after _ _ (search needs)))
 
 pub is-unordered-spec : {M : Type 1} → statement M
 is-unordered-spec =

@@ -15,7 +15,13 @@ slice-of-requires : tie.Need-slice-of-requires
 slice-of-requires c κs = search needs
 
 returns : tie.Need-returns
-returns c = rw (table-ticks _ _ (c .before .before .before .before .pre .0), c .slice-of .ensures .0, c .before .before .units-of .ensures, c .before .duty-of .ensures .0)
+returns c =
+    rw (
+      table-ticks _ _ (c .before .before .before .before .pre .0),
+      c .slice-of .ensures .0,
+      c .before .before .units-of .ensures,
+      c .before .duty-of .ensures .0,
+    )
 
 pub is-wrong-sum-spec : {M : Type 1} → statement M
 is-wrong-sum-spec =

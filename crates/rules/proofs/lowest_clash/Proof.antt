@@ -30,7 +30,9 @@ clashes-requires c κs = search needs
 
 returns : tie.Need-returns Inv-loop μ-loop
 unfolding lowest
-returns c = rw (table-runs _ (c .before .before .before .before .before .before .args .rd)) (seek-hit (c .before .before .before .loop .inv) (search needs) (sym (c .before .clashes .ensures) ∙ c .if1 .taken))
+returns c =
+    rw (table-runs _ (c .before .before .before .before .before .before .args .rd))
+    (seek-hit (c .before .before .before .loop .inv) (search needs) (sym (c .before .clashes .ensures) ∙ c .if1 .taken))
 
 add-k : tie.Need-add-k Inv-loop μ-loop
 add-k c = search needs

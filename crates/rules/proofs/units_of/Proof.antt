@@ -43,13 +43,22 @@ loop-again : tie.Need-loop-again Inv-loop μ-loop
 loop-again c =
     let b = c .before .before .before .before .before .before .args .b .now in
     let rd = c .before .before .before .before .before .before .args .rd in
-    omega (arith, table-runs b rd, units-further (tableOf b rd .runs) (c .before .before .before .loop .k) (c .before .before .before .before .before .before .args .i) (omega (arith, table-runs b rd)), rw (c .before .run-of .ensures .0) at (c .units-for .ensures .0), c .before .run-of .ensures .1)
+    omega (
+      arith,
+      table-runs b rd,
+      units-further (tableOf b rd .runs) (c .before .before .before .loop .k) (c .before .before .before .before .before .before .args .i) (omega (arith, table-runs b rd)),
+      rw (c .before .run-of .ensures .0) at (c .units-for .ensures .0),
+      c .before .run-of .ensures .1,
+    )
 
 returns : tie.Need-returns Inv-loop μ-loop
 returns c =
     let b = c .before .before .before .before .args .b .now in
     let rd = c .before .before .before .before .args .rd in
-    omega (arith, units-finished (tableOf b rd .runs) (c .before .loop .k) (c .before .before .before .before .args .i) (omega (arith, table-runs b rd)))
+    omega (
+      arith,
+      units-finished (tableOf b rd .runs) (c .before .loop .k) (c .before .before .before .before .args .i) (omega (arith, table-runs b rd)),
+    )
 
 pub units-of-spec : {M : Type 1} → statement M
 units-of-spec =
