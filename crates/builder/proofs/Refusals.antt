@@ -8,11 +8,12 @@ use native.Mathlib.Nat.{le-of-dvd}
 use native.Mathlib.Omega.{arith}
 use lib.Dec.{leb, ltb, eqb}
 use lib.ListN.{length, getD}
-use borrow.Author.Tests.{lt-ltb, le-ltb, eq-eqb, ne-eqb, not-false}
+use borrow.Author.Tests.{lt-ltb, le-ltb, eq-eqb, ne-eqb, leb-true, not-false}
 use Rattle.laws.specs.Choice.{pick}
 use Rattle.laws.specs.Divisor.{gcdOf}
 use Rattle.laws.specs.Lists.{sumOf, over}
 use Rattle.laws.proofs.Divisor.{gcdOf-divides, gcdOf-positive}
+use Rattle.laws.proofs.Lists.{and-left, and-right}
 use Rattle.laws.proofs.Search.{by-cases, none-clear}
 use Rattle.paper.specs.declared.Duty.{Duty}
 use Rattle.paper.specs.Words.{dutyAt, Table, blockLengthOf}
@@ -158,3 +159,9 @@ ready ss ps p a h =
 
     some : 0 < getD ps 0 0
     some = first .0
+
+-- a number that passes the test of a range is in it
+pub inside : (low high v : ℕ) → not (within low high v) ≡ false → (low ≤ v) × (v ≤ high)
+inside low high v h =
+    let w = not-false (within low high v) h in
+    (leb-true low v (and-left (leb low v) (leb v high) w), leb-true v high (and-right (leb low v) (leb v high) w))

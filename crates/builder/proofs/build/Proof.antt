@@ -1,3 +1,11 @@
+use Prim.Native.Nat.{ℕ, _≤_}
+use mathlib.Core.Path.{_≡_, refl, sym, ap, _∙_}
+use mathlib.Core.Bool.{not}
+use native.Mathlib.Omega.{arith}
+use lib.ListN.{length}
+use Rattle.paper.specs.Builder.{dutiesOf}
+use Rattle.builder.specs.Built.{Paired, buildAt}
+use Rattle.builder.proofs.Refusals.{does, refuses, refusal-1, refusal-2, refusal-3, refusal-4-5, past-5, ready, inside}
 use borrow.Author.Needs.{needs}
 use Rattle.builder.proofs.build.Statement.{statement}
 use Rattle.builder.proofs.build.Tie as tie
@@ -15,11 +23,11 @@ between-requires c κs = search needs
 
 -- src/lib.rt:301:9
 returns : tie.Need-returns
-returns c = ?
+returns c = refuses 1 0 _ (refusal-1 _ _ _ _ (sym (ap not (c .before .between .ensures)) ∙ c .if1 .taken))
 
 -- src/lib.rt:305:9
 returns-2 : tie.Need-returns-2
-returns-2 c = ?
+returns-2 c = refuses 2 0 _ (refusal-2 _ _ _ _ (sym (ap not (c .before .before .between .ensures)) ∙ c .before .if1 .left) (search needs))
 
 -- src/lib.rt:307:9
 between-requires-2 : tie.Need-between-requires-2
@@ -27,11 +35,11 @@ between-requires-2 c κs = search needs
 
 -- src/lib.rt:308:9
 returns-3 : tie.Need-returns-3
-returns-3 c = ?
+returns-3 c = refuses 3 0 _ (refusal-3 _ _ _ _ (sym (ap not (c .before .before .before .before .between .ensures)) ∙ c .before .before .before .if1 .left) (search needs) (sym (ap not (c .before .between2 .ensures)) ∙ c .if3 .taken))
 
 -- src/lib.rt:310:9
 bad-range-requires : tie.Need-bad-range-requires
-bad-range-requires c κs = ?
+bad-range-requires c κs = let d = inside 1 64 (length (c .before .before .before .before .before .before .before .before .args .services .now)) (sym (ap not (c .before .between2 .ensures)) ∙ c .if3 .left) in search needs
 
 -- src/lib.rt:312:28
 mul-range-fault : tie.Need-mul-range-fault
@@ -47,7 +55,11 @@ range-fault-requires c κs = search needs
 
 -- src/lib.rt:312:9
 returns-4 : tie.Need-returns-4
-returns-4 c = ?
+returns-4 c =
+    let m = c .before .before .before .before .before .before .before .before .before .before .before .before .args .engines in
+    let ss = c .before .before .before .before .before .before .before .before .before .before .before .before .args .services .now in
+    let ps = c .before .before .before .before .before .before .before .before .before .before .before .before .args .periods .now in
+    refusal-4-5 m ss ps (length (c .before .before .before .before .before .before .before .before .before .before .before .before .args .out .now)) (c .before .before .before .bad-range .result) (c .range-fault .result) (c .before .before .before .before .before .before .before .before .before .before .before .before .args .out .now) (sym (ap not (c .before .before .before .before .before .before .before .before .between .ensures)) ∙ c .before .before .before .before .before .before .before .if1 .left) (search needs) (sym (ap not (c .before .before .before .before .before .between2 .ensures)) ∙ c .before .before .before .before .if3 .left) (c .before .before .before .bad-range .ensures) (search needs) (c .range-fault .ensures)
 
 -- src/lib.rt:314:9
 gcd-of-all-requires : tie.Need-gcd-of-all-requires
@@ -55,7 +67,14 @@ gcd-of-all-requires c κs = search needs
 
 -- src/lib.rt:315:5
 build-at-requires : tie.Need-build-at-requires
-build-at-requires c κs = ?
+build-at-requires c κs =
+    let m = c .before .before .before .before .before .before .before .before .before .before .before .before .args .engines in
+    let ss = c .before .before .before .before .before .before .before .before .before .before .before .before .args .services .now in
+    let ps = c .before .before .before .before .before .before .before .before .before .before .before .before .args .periods .now in
+    let d = inside 1 64 (length ss) (sym (ap not (c .before .before .before .before .before .between2 .ensures)) ∙ c .before .before .before .before .if3 .left) in
+    let e = inside 1 32 m (sym (ap not (c .before .before .before .before .before .before .before .before .between .ensures)) ∙ c .before .before .before .before .before .before .before .if1 .left) in
+    let p : Paired ss ps = search needs in
+    (rw (c .before .gcd-of-all .ensures) (ready ss ps p (d .0) (omega (arith, c .before .before .before .bad-range .ensures))), e .1)
 
 -- src/lib.rt:297:1
 same-length : tie.Need-same-length
@@ -63,7 +82,15 @@ same-length c = search needs
 
 -- src/lib.rt:297:1
 returns-5 : tie.Need-returns-5
-returns-5 c = ?
+returns-5 c =
+    let m = c .before .before .before .before .before .before .before .before .before .before .before .before .before .before .before .args .engines in
+    let ss = c .before .before .before .before .before .before .before .before .before .before .before .before .before .before .before .args .services .now in
+    let ps = c .before .before .before .before .before .before .before .before .before .before .before .before .before .before .before .args .periods .now in
+    let room = length (c .before .before .before .before .before .before .before .before .before .before .before .before .before .before .before .args .out .now) in
+    does (c .before .before .build-at .result) (c .before .before .before .before .before .before .before .before .before .before .before .before .before .before .before .args .out .now) _ _ _
+    (past-5 m ss ps room (sym (ap not (c .before .before .before .before .before .before .before .before .before .before .before .between .ensures)) ∙ c .before .before .before .before .before .before .before .before .before .before .if1 .left) (search needs) (sym (ap not (c .before .before .before .before .before .before .before .before .between2 .ensures)) ∙ c .before .before .before .before .before .before .before .if3 .left) (omega (arith, c .before .before .before .before .before .before .bad-range .ensures))
+    ∙ ap (λ (t : ℕ). buildAt t m (dutiesOf ss ps) room) (sym (c .before .before .before .before .gcd-of-all .ensures)))
+    (c .before .before .build-at .ensures)
 
 pub build-spec : {M : Type 1} → statement M
 build-spec =

@@ -32,7 +32,7 @@ returns c =
     let ps = c .before .before .before .before .before .args .periods .now in
     let ds = dutiesOf ss ps in
     let room = length (c .before .before .before .before .before .args .out .now) in
-    refuses 6 _ _ (refusal-6 t m ds room _ (c .before .bad-slice .ensures) (omega (arith, duties-length ss ps))) 
+    refuses 6 _ _ (refusal-6 t m ds room _ (c .before .bad-slice .ensures) (omega (arith, duties-length ss ps)))
 
 -- src/lib.rt:282:9
 total-slices-requires : tie.Need-total-slices-requires
@@ -51,7 +51,7 @@ returns-2 c =
     let ps = c .before .before .before .before .before .before .before .args .periods .now in
     let ds = dutiesOf ss ps in
     let room = length (c .before .before .before .before .before .before .before .args .out .now) in
-    refuses 7 0 _ (refusal-7 t m ds room (omega (arith, duties-length ss ps, c .before .before .before .bad-slice .ensures)) (omega (arith, c .before .total-slices .ensures))) 
+    refuses 7 0 _ (refusal-7 t m ds room (omega (arith, duties-length ss ps, c .before .before .before .bad-slice .ensures)) (omega (arith, c .before .total-slices .ensures)))
 
 -- src/lib.rt:286:9
 count-runs-requires : tie.Need-count-runs-requires
@@ -84,7 +84,7 @@ returns-3 c =
     let room = length (c .before .before .before .before .before .before .before .before .before .args .out .now) in
     let n = 10 + 9 * length ss + 11 * c .before .count-runs .result in
     let size : length (encode small (sa1 t m ds)) ≡ n = sa1-length t m ds ∙ omega (arith, duties-length ss ps, c .before .count-runs .ensures .0) in
-    refuses 8 n _ (refusal-8 t m ds room n (omega (arith, duties-length ss ps, c .before .before .before .before .before .bad-slice .ensures)) (omega (arith, c .before .before .before .total-slices .ensures)) size (search needs)) 
+    refuses 8 n _ (refusal-8 t m ds room n (omega (arith, duties-length ss ps, c .before .before .before .before .before .bad-slice .ensures)) (omega (arith, c .before .before .before .total-slices .ensures)) size (search needs))
 
 -- src/lib.rt:291:5
 put-table-requires : tie.Need-put-table-requires
