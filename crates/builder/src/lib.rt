@@ -31,9 +31,9 @@ pub enum Built {
 }
 
 // The row and the unit where the next duty starts.
-pub struct Place {
-    pub row: Row,
-    pub unit: u32,
+struct Place {
+    row: Row,
+    unit: u32,
 }
 
 // ---- the duties
