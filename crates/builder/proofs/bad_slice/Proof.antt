@@ -31,7 +31,8 @@ is-whole-requires c κs = rw (c .duty-at .ensures) (omega (arith, c .before .bef
 returns : tie.Need-returns Inv-loop μ-loop
 unfolding badSlice
 returns c =
-    seek-hit (c .before .before .before .before .loop .inv) (omega (arith, duties-length (c .before .before .before .before .before .before .before .args .services .now) (c .before .before .before .before .before .before .before .args .periods .now)))
+    let args = c .before .before .before .before .before .before .before .args in
+    seek-hit (c .before .before .before .before .loop .inv) (omega (arith, duties-length (args .services .now) (args .periods .now)))
     (sym (ap not (c .before .is-whole .ensures ∙ ap (whole _) (c .before .before .duty-at .ensures))) ∙ c .if1 .taken)
 
 add-i : tie.Need-add-i Inv-loop μ-loop
@@ -42,12 +43,15 @@ loop-less c = search needs
 
 loop-again : tie.Need-loop-again Inv-loop μ-loop
 loop-again c =
-    seek-more (c .before .before .before .before .loop .inv) (omega (arith, duties-length (c .before .before .before .before .before .before .before .args .services .now) (c .before .before .before .before .before .before .before .args .periods .now)))
+    let args = c .before .before .before .before .before .before .before .args in
+    seek-more (c .before .before .before .before .loop .inv) (omega (arith, duties-length (args .services .now) (args .periods .now)))
     (sym (ap not (c .before .is-whole .ensures ∙ ap (whole _) (c .before .before .duty-at .ensures))) ∙ c .if1 .left)
 
 returns-2 : tie.Need-returns-2 Inv-loop μ-loop
 unfolding badSlice
-returns-2 c = seek-miss (c .before .loop .inv) (omega (arith, duties-length (c .before .before .before .before .args .services .now) (c .before .before .before .before .args .periods .now)))
+returns-2 c =
+    let args = c .before .before .before .before .args in
+    seek-miss (c .before .loop .inv) (omega (arith, duties-length (args .services .now) (args .periods .now)))
 
 pub bad-slice-spec : {M : Type 1} → statement M
 bad-slice-spec =

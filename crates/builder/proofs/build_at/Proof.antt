@@ -20,12 +20,13 @@ bad-slice-requires c κs = search needs
 
 returns : tie.Need-returns
 returns c =
-    let t = c .before .before .before .before .before .args .t in
-    let m = c .before .before .before .before .before .args .engines in
-    let ss = c .before .before .before .before .before .args .services .now in
-    let ps = c .before .before .before .before .before .args .periods .now in
+    let args = c .before .before .before .before .before .args in
+    let t = args .t in
+    let m = args .engines in
+    let ss = args .services .now in
+    let ps = args .periods .now in
     let ds = dutiesOf ss ps in
-    let room = length (c .before .before .before .before .before .args .out .now) in
+    let room = length (args .out .now) in
     refuses 6 _ _ (refusal-6 t m ds room _ (c .before .bad-slice .ensures) (omega (arith, duties-length ss ps)))
 
 total-slices-requires : tie.Need-total-slices-requires
@@ -36,12 +37,13 @@ mul-if2 c = omega (arith, mul-le-mul (c .before .before .before .before .before 
 
 returns-2 : tie.Need-returns-2
 returns-2 c =
-    let t = c .before .before .before .before .before .before .before .args .t in
-    let m = c .before .before .before .before .before .before .before .args .engines in
-    let ss = c .before .before .before .before .before .before .before .args .services .now in
-    let ps = c .before .before .before .before .before .before .before .args .periods .now in
+    let args = c .before .before .before .before .before .before .before .args in
+    let t = args .t in
+    let m = args .engines in
+    let ss = args .services .now in
+    let ps = args .periods .now in
     let ds = dutiesOf ss ps in
-    let room = length (c .before .before .before .before .before .before .before .args .out .now) in
+    let room = length (args .out .now) in
     refuses 7 0 _ (refusal-7 t m ds room (omega (arith, duties-length ss ps, c .before .before .before .bad-slice .ensures)) (omega (arith, c .before .total-slices .ensures)))
 
 count-runs-requires : tie.Need-count-runs-requires
@@ -61,12 +63,13 @@ add-needed-2 c = search needs
 
 returns-3 : tie.Need-returns-3
 returns-3 c =
-    let t = c .before .before .before .before .before .before .before .before .before .args .t in
-    let m = c .before .before .before .before .before .before .before .before .before .args .engines in
-    let ss = c .before .before .before .before .before .before .before .before .before .args .services .now in
-    let ps = c .before .before .before .before .before .before .before .before .before .args .periods .now in
+    let args = c .before .before .before .before .before .before .before .before .before .args in
+    let t = args .t in
+    let m = args .engines in
+    let ss = args .services .now in
+    let ps = args .periods .now in
     let ds = dutiesOf ss ps in
-    let room = length (c .before .before .before .before .before .before .before .before .before .args .out .now) in
+    let room = length (args .out .now) in
     let n = 10 + 9 * length ss + 11 * c .before .count-runs .result in
     let size : length (encode small (sa1 t m ds)) ≡ n = sa1-length t m ds ∙ omega (arith, duties-length ss ps, c .before .count-runs .ensures .0) in
     refuses 8 n _ (refusal-8 t m ds room n (omega (arith, duties-length ss ps, c .before .before .before .before .before .bad-slice .ensures)) (omega (arith, c .before .before .before .total-slices .ensures)) size (search needs))
@@ -79,12 +82,13 @@ same-length c = search needs
 
 returns-4 : tie.Need-returns-4
 returns-4 c =
-    let t = c .before .before .before .before .before .before .before .before .before .before .before .before .before .args .t in
-    let m = c .before .before .before .before .before .before .before .before .before .before .before .before .before .args .engines in
-    let ss = c .before .before .before .before .before .before .before .before .before .before .before .before .before .args .services .now in
-    let ps = c .before .before .before .before .before .before .before .before .before .before .before .before .before .args .periods .now in
+    let args = c .before .before .before .before .before .before .before .before .before .before .before .before .before .args in
+    let t = args .t in
+    let m = args .engines in
+    let ss = args .services .now in
+    let ps = args .periods .now in
     let ds = dutiesOf ss ps in
-    let room = length (c .before .before .before .before .before .before .before .before .before .before .before .before .before .args .out .now) in
+    let room = length (args .out .now) in
     let n = 10 + 9 * length ss + 11 * c .before .before .before .before .before .count-runs .result in
     let size : length (encode small (sa1 t m ds)) ≡ n = sa1-length t m ds ∙ omega (arith, duties-length ss ps, c .before .before .before .before .before .count-runs .ensures .0) in
     answers n (encode small (sa1 t m ds)) _ _ (built t m ds room n (omega (arith, duties-length ss ps, c .before .before .before .before .before .before .before .before .before .bad-slice .ensures)) (omega (arith, c .before .before .before .before .before .before .before .total-slices .ensures)) size (search needs)) size (c .before .before .put-table .ensures)

@@ -44,21 +44,24 @@ loop-less c = search needs
 
 loop-again : tie.Need-loop-again Inv-loop μ-loop
 loop-again c =
-    let ss = c .before .before .before .before .before .before .before .args .services .now in
-    let ps = c .before .before .before .before .before .before .before .args .periods .now in
+    let args = c .before .before .before .before .before .before .before .args in
+    let ss = args .services .now in
+    let ps = args .periods .now in
     let h : c .before .before .before .before .loop .i < length (dutiesOf ss ps) = omega (arith, duties-length ss ps) in (
       search needs,
       search needs,
       search needs,
       search needs,
-      omega (arith, count-left (c .before .before .before .before .before .before .before .args .t) _ (dutiesOf ss ps) _ _ _ h (c .before .before .slice-at .ensures .0) (c .after .ensures .0), c .before .runs-at .ensures),
+      omega (arith, count-left (args .t) _ (dutiesOf ss ps) _ _ _ h (c .before .before .slice-at .ensures .0) (c .after .ensures .0), c .before .runs-at .ensures),
     )
 
 returns : tie.Need-returns Inv-loop μ-loop
 returns c =
-    let ss = c .before .before .before .before .args .services .now in
-    let ps = c .before .before .before .before .args .periods .now in
-    omega (arith, count-none (c .before .before .before .before .args .t) (dutiesOf ss ps) (c .before .loop .i) (c .before .loop .place) (omega (arith, duties-length ss ps)))
+    let args = c .before .before .before .before .args in
+    let loop = c .before .loop in
+    let ss = args .services .now in
+    let ps = args .periods .now in
+    omega (arith, count-none (args .t) (dutiesOf ss ps) (loop .i) (loop .place) (omega (arith, duties-length ss ps)))
 
 pub count-runs-spec : {M : Type 1} → statement M
 count-runs-spec =

@@ -54,18 +54,20 @@ loop-less c = search needs
 
 loop-again : tie.Need-loop-again Inv-loop μ-loop
 loop-again c =
-    let ss = c .before .before .before .before .before .before .before .before .before .before .args .services .now in
-    let ps = c .before .before .before .before .before .before .before .before .before .before .args .periods .now in
+    let args = c .before .before .before .before .before .before .before .before .before .before .args in
+    let loop = c .before .before .before .before .before .before .loop in
+    let ss = args .services .now in
+    let ps = args .periods .now in
     let ds = dutiesOf ss ps in
-    let i = c .before .before .before .before .before .before .loop .i in
+    let i = loop .i in
     let h : i < length ds = omega (arith, duties-length ss ps) in
     let here = flat-left dutyBytes (duty 0 0) ds i h in (
       search needs,
       search needs,
       search needs,
-      moved (ap (λ (n : ℕ). c .before .before .before .before .before .before .loop .at + n) (duty-length (dutyAt ds i)))
-          (more _ _ (flat dutyBytes (drop (i + 1) ds)) (c .before .before .before .before .before .before .loop .out) (dutyBytes (dutyAt ds i)) _ (c .before .before .before .before .before .before .loop .at) (next here (c .before .before .before .before .before .before .loop .inv .3))
-          (c .before .before .put-duty .ensures ∙ ap (λ (x : Duty). over (dutyBytes x) (take (length (c .before .before .before .before .before .before .loop .out) - c .before .before .before .before .before .before .loop .at) (drop (c .before .before .before .before .before .before .loop .at) (c .before .before .before .before .before .before .loop .out)))) (c .before .before .before .duty-at .ensures))),
+      moved (ap (λ (n : ℕ). loop .at + n) (duty-length (dutyAt ds i)))
+          (more _ _ (flat dutyBytes (drop (i + 1) ds)) (loop .out) (dutyBytes (dutyAt ds i)) _ (loop .at) (next here (loop .inv .3))
+          (c .before .before .put-duty .ensures ∙ ap (λ (x : Duty). over (dutyBytes x) (take (length (loop .out) - loop .at) (drop (loop .at) (loop .out)))) (c .before .before .before .duty-at .ensures))),
     )
 
 same-length : tie.Need-same-length Inv-loop μ-loop
@@ -73,10 +75,12 @@ same-length c = search needs
 
 returns : tie.Need-returns Inv-loop μ-loop
 returns c =
-    let ss = c .before .before .before .before .before .args .services .now in
-    let ps = c .before .before .before .before .before .args .periods .now in
-    let none = flat-none dutyBytes (dutiesOf ss ps) (c .before .loop .i) (omega (arith, duties-length ss ps)) in
-    done _ _ (c .before .loop .out) (c .before .loop .at) (next none (c .before .loop .inv .3))
+    let args = c .before .before .before .before .before .args in
+    let loop = c .before .loop in
+    let ss = args .services .now in
+    let ps = args .periods .now in
+    let none = flat-none dutyBytes (dutiesOf ss ps) (loop .i) (omega (arith, duties-length ss ps)) in
+    done _ _ (loop .out) (loop .at) (next none (loop .inv .3))
 
 pub put-duties-spec : {M : Type 1} → statement M
 put-duties-spec =

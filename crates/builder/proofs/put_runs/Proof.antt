@@ -44,17 +44,21 @@ cast-put-duty-runs c = search needs
 
 put-duty-runs-requires : tie.Need-put-duty-runs-requires Inv-loop μ-loop
 put-duty-runs-requires c κs =
-    let ss = c .before .before .before .before .before .before .before .args .services .now in
-    let ps = c .before .before .before .before .before .before .before .args .periods .now in
-    let h : c .before .before .before .loop .i < length (dutiesOf ss ps) = omega (arith, duties-length ss ps) in
-    rw length-lent (omega (arith, count-left (c .before .before .before .before .before .before .before .args .t) _ (dutiesOf ss ps) _ (c .before .before .before .loop .place) _ h (c .before .slice-at .ensures .0) refl))
+    let args = c .before .before .before .before .before .before .before .args in
+    let loop = c .before .before .before .loop in
+    let ss = args .services .now in
+    let ps = args .periods .now in
+    let h : loop .i < length (dutiesOf ss ps) = omega (arith, duties-length ss ps) in
+    rw length-lent (omega (arith, count-left (args .t) _ (dutiesOf ss ps) _ (loop .place) _ h (c .before .slice-at .ensures .0) refl))
 
 add-at : tie.Need-add-at Inv-loop μ-loop
 add-at c =
-    let ss = c .before .before .before .before .before .before .before .before .before .before .args .services .now in
-    let ps = c .before .before .before .before .before .before .before .before .before .before .args .periods .now in
-    let h : c .before .before .before .before .before .before .loop .i < length (dutiesOf ss ps) = omega (arith, duties-length ss ps) in
-    omega (arith, count-left (c .before .before .before .before .before .before .before .before .before .before .args .t) _ (dutiesOf ss ps) _ (c .before .before .before .before .before .before .loop .place) _ h (c .before .before .before .before .slice-at .ensures .0) refl, c .before .before .put-duty-runs .ensures .1)
+    let args = c .before .before .before .before .before .before .before .before .before .before .args in
+    let loop = c .before .before .before .before .before .before .loop in
+    let ss = args .services .now in
+    let ps = args .periods .now in
+    let h : loop .i < length (dutiesOf ss ps) = omega (arith, duties-length ss ps) in
+    omega (arith, count-left (args .t) _ (dutiesOf ss ps) _ (loop .place) _ h (c .before .before .before .before .slice-at .ensures .0) refl, c .before .before .put-duty-runs .ensures .1)
 
 after-requires : tie.Need-after-requires Inv-loop μ-loop
 after-requires c κs = search needs
@@ -67,22 +71,24 @@ loop-less c = search needs
 
 loop-again : tie.Need-loop-again Inv-loop μ-loop
 loop-again c =
-    let t = c .before .before .before .before .before .before .before .before .before .before .before .args .t in
-    let ss = c .before .before .before .before .before .before .before .before .before .before .before .args .services .now in
-    let ps = c .before .before .before .before .before .before .before .before .before .before .before .args .periods .now in
+    let args = c .before .before .before .before .before .before .before .before .before .before .before .args in
+    let loop = c .before .before .before .before .before .before .before .loop in
+    let t = args .t in
+    let ss = args .services .now in
+    let ps = args .periods .now in
     let ds = dutiesOf ss ps in
-    let i = c .before .before .before .before .before .before .before .loop .i in
+    let i = loop .i in
     let n = c .before .before .before .before .before .slice-at .result in
     let h : i < length ds = omega (arith, duties-length ss ps) in
-    let left = bytes-left t n ds i (c .before .before .before .before .before .before .before .loop .place) (c .after .result) h (c .before .before .before .before .before .slice-at .ensures .0) (c .after .ensures .0) in
+    let left = bytes-left t n ds i (loop .place) (c .after .result) h (c .before .before .before .before .before .slice-at .ensures .0) (c .after .ensures .0) in
     let bytes = c .before .before .before .put-duty-runs .ensures .1 in (
       search needs,
       search needs,
       search needs,
       search needs,
-      omega (arith, count-left t n ds i (c .before .before .before .before .before .before .before .loop .place) (c .after .result) h (c .before .before .before .before .before .slice-at .ensures .0) (c .after .ensures .0)),
-      moved (ap (λ (k : ℕ). c .before .before .before .before .before .before .before .loop .at + k) (bytes-length t n i (c .before .before .before .before .before .before .before .loop .place) ∙ sym bytes))
-          (more _ _ _ (c .before .before .before .before .before .before .before .loop .out) (runsBytes (laidAt t n i (c .before .before .before .before .before .before .before .loop .place))) _ (c .before .before .before .before .before .before .before .loop .at) (next left (c .before .before .before .before .before .before .before .loop .inv .5)) (c .before .before .before .put-duty-runs .ensures .0)),
+      omega (arith, count-left t n ds i (loop .place) (c .after .result) h (c .before .before .before .before .before .slice-at .ensures .0) (c .after .ensures .0)),
+      moved (ap (λ (k : ℕ). loop .at + k) (bytes-length t n i (loop .place) ∙ sym bytes))
+          (more _ _ _ (loop .out) (runsBytes (laidAt t n i (loop .place))) _ (loop .at) (next left (loop .inv .5)) (c .before .before .before .put-duty-runs .ensures .0)),
     )
 
 same-length : tie.Need-same-length Inv-loop μ-loop
@@ -90,10 +96,12 @@ same-length c = search needs
 
 returns : tie.Need-returns Inv-loop μ-loop
 returns c =
-    let ss = c .before .before .before .before .before .args .services .now in
-    let ps = c .before .before .before .before .before .args .periods .now in
-    let none = bytes-none (c .before .before .before .before .before .args .t) (dutiesOf ss ps) (c .before .loop .i) (c .before .loop .place) (omega (arith, duties-length ss ps)) in
-    done _ _ (c .before .loop .out) (c .before .loop .at) (next none (c .before .loop .inv .5))
+    let args = c .before .before .before .before .before .args in
+    let loop = c .before .loop in
+    let ss = args .services .now in
+    let ps = args .periods .now in
+    let none = bytes-none (args .t) (dutiesOf ss ps) (loop .i) (loop .place) (omega (arith, duties-length ss ps)) in
+    done _ _ (loop .out) (loop .at) (next none (loop .inv .5))
 
 pub put-runs-spec : {M : Type 1} → statement M
 put-runs-spec =

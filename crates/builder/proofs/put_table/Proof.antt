@@ -81,13 +81,14 @@ same-length c = search needs
 
 returns : tie.Need-returns
 returns c =
-    let t = c .before .before .before .before .before .before .before .before .before .before .before .before .before .before .before .before .before .before .before .args .t in
-    let m = c .before .before .before .before .before .before .before .before .before .before .before .before .before .before .before .before .before .before .before .args .engines in
-    let ss = c .before .before .before .before .before .before .before .before .before .before .before .before .before .before .before .before .before .before .before .args .services .now in
-    let ps = c .before .before .before .before .before .before .before .before .before .before .before .before .before .before .before .before .before .before .before .args .periods .now in
+    let args = c .before .before .before .before .before .before .before .before .before .before .before .before .before .before .before .before .before .before .before .args in
+    let t = args .t in
+    let m = args .engines in
+    let ss = args .services .now in
+    let ps = args .periods .now in
     let ds = dutiesOf ss ps in
-    let runs = c .before .before .before .before .before .before .before .before .before .before .before .before .before .before .before .before .before .before .before .args .runs in
-    let out = c .before .before .before .before .before .before .before .before .before .before .before .before .before .before .before .before .before .before .before .args .out .now in
+    let runs = args .runs in
+    let out = args .out .now in
     let H = headOf t m (length ss) in
     let D = flat dutyBytes ds in
     let laid = laidFrom t (slices t ds) 0 corner in

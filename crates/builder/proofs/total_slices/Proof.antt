@@ -38,9 +38,10 @@ loop-less c = search needs
 
 loop-again : tie.Need-loop-again Inv-loop μ-loop
 loop-again c =
-    let t = c .before .before .before .before .before .args .t in
-    let ss = c .before .before .before .before .before .args .services .now in
-    let ps = c .before .before .before .before .before .args .periods .now in
+    let args = c .before .before .before .before .before .args in
+    let t = args .t in
+    let ss = args .services .now in
+    let ps = args .periods .now in
     let ds = dutiesOf ss ps in
     let i = c .before .before .loop .i in
     let h : i < length ds = omega (arith, duties-length ss ps) in
@@ -48,9 +49,10 @@ loop-again c =
 
 returns : tie.Need-returns Inv-loop μ-loop
 returns c =
-    let ss = c .before .before .before .before .args .services .now in
-    let ps = c .before .before .before .before .args .periods .now in
-    omega (arith, total-none (c .before .before .before .before .args .t) (dutiesOf ss ps) (c .before .loop .i) (omega (arith, duties-length ss ps)))
+    let args = c .before .before .before .before .args in
+    let ss = args .services .now in
+    let ps = args .periods .now in
+    omega (arith, total-none (args .t) (dutiesOf ss ps) (c .before .loop .i) (omega (arith, duties-length ss ps)))
 
 pub total-slices-spec : {M : Type 1} → statement M
 total-slices-spec =
