@@ -2,17 +2,15 @@
 -- Assumes nothing.
 use Prim.Native.Nat.{ℕ, _+_, _*_, _-_, _≤_, _<_}
 use mathlib.Core.Path.{_≡_, refl, sym, ap, _∙_}
-use mathlib.Core.Bool.{Bool, true, false}
 use mathlib.Core.List.{List, [], _∷_, _++_, append-nil}
 use native.Mathlib.Omega.{arith}
-use lib.Dec.{leb, ltb}
+use lib.Dec.{leb}
 use lib.ListN.{length, drop, length-append}
 use borrow.Author.Tests.{le-leb, lt-leb, lt-ltb, le-ltb}
 use Rattle.laws.specs.Lists.{flat}
 use Rattle.laws.proofs.Cases.{by-cases}
 use Rattle.laws.proofs.Lists.{flat-append, flat-end}
 use Rattle.paper.specs.declared.Duty.{Duty}
-use Rattle.paper.specs.declared.Run.{Run}
 use Rattle.paper.specs.Words.{run, row, slice, dutyAt}
 use Rattle.paper.specs.Sa1.{lay, layOne, rowAfter, unitAfter, slices}
 use Rattle.paper.specs.Bytes.{small, runBytes}

@@ -3,3 +3,4 @@ pub mod Laying
 pub mod Lengths
 pub mod Table
 pub mod Refusals
+pub mod Unique

@@ -1,23 +1,24 @@
 -- The builder's refusals in their order: what each test that holds comes to, and what is left once it has failed.
 -- Assumes nothing.
-use Prim.Native.Nat.{ℕ, _+_, _*_, _≤_, _<_}
+use Prim.Native.Nat.{ℕ, _*_, _≤_, _<_}
 use mathlib.Core.Path.{_≡_, refl, sym, ap, _∙_}
-use mathlib.Core.Bool.{Bool, true, false, not}
-use mathlib.Core.List.{List, [], _∷_}
+use mathlib.Core.Bool.{true, false, not}
+use mathlib.Core.List.{List}
 use native.Mathlib.Nat.{le-of-dvd}
 use native.Mathlib.Omega.{arith}
-use lib.Dec.{leb, ltb, eqb}
+use lib.Dec.{leb}
 use lib.ListN.{length, getD}
-use borrow.Author.Tests.{lt-ltb, le-ltb, eq-eqb, ne-eqb, not-false}
+use borrow.Author.Tests.{lt-ltb, le-ltb, eq-eqb, ne-eqb, leb-true, not-false}
 use Rattle.laws.specs.Choice.{pick}
 use Rattle.laws.specs.Divisor.{gcdOf}
 use Rattle.laws.specs.Lists.{sumOf, over}
 use Rattle.laws.proofs.Divisor.{gcdOf-divides, gcdOf-positive}
+use Rattle.laws.proofs.Lists.{and-left, and-right}
 use Rattle.laws.proofs.Search.{by-cases, none-clear}
 use Rattle.paper.specs.declared.Duty.{Duty}
-use Rattle.paper.specs.Words.{dutyAt, Table, blockLengthOf}
+use Rattle.paper.specs.Words.{dutyAt, blockLengthOf}
 use Rattle.paper.specs.Sa1.{slices, sa1}
-use Rattle.paper.specs.Outcome.{Outcome, refused, answer, andThen, lengthOf, leaves}
+use Rattle.paper.specs.Outcome.{Outcome, refused, answer, lengthOf, leaves}
 use Rattle.paper.specs.Bytes.{small, mostTicks, within, dutyRanged, encode}
 use Rattle.paper.specs.Builder.{dutiesOf, badRange, rangeFault, badSlice, planAt, planDuties, plan, fitted, build}
 use Rattle.paper.specs.Statements.{DutyRanged}
@@ -158,3 +159,9 @@ ready ss ps p a h =
 
     some : 0 < getD ps 0 0
     some = first .0
+
+-- a number that passes the test of a range is in it
+pub inside : (low high v : ℕ) → not (within low high v) ≡ false → (low ≤ v) × (v ≤ high)
+inside low high v h =
+    let w = not-false (within low high v) h in
+    (leb-true low v (and-left (leb low v) (leb v high) w), leb-true v high (and-right (leb low v) (leb v high) w))

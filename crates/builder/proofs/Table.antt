@@ -1,13 +1,12 @@
 -- SA1's table as its writer has it: the records one after the other, and how long they are together.
 -- Assumes nothing.
 use Prim.Native.Nat.{ℕ, _+_, _*_}
-use mathlib.Core.Path.{_≡_, refl, sym, ap, _∙_}
+use mathlib.Core.Path.{_≡_, refl}
 use mathlib.Core.List.{List, [], _++_, append-assoc, append-nil}
 use lib.ListN.{length}
 use Rattle.laws.specs.Lists.{flat}
 use Rattle.laws.specs.Digits.{digits}
 use Rattle.paper.specs.declared.Duty.{Duty}
-use Rattle.paper.specs.declared.Run.{Run}
 use Rattle.paper.specs.Sa1.{slices, sa1}
 use Rattle.paper.specs.Bytes.{small, headBytes, dutyBytes, endBytes, encode}
 use Rattle.records.specs.Head.{headOf}

@@ -1,7 +1,6 @@
 // The builder: from services and periods to a table's bytes, by SA1. It stands in three parts: the tests up to refusal 5
 // and the block length; the refusals 6 to 8 for any block length; and the writing.
 ghost use mathlib.Core.Path.{_≡_};
-ghost use mathlib.Core.Bool.{not};
 ghost use Prim.Native.Nat.{_+_, _*_, _≤_, _<_};
 ghost use lib.ListN.{length};
 ghost use Rattle.laws.specs.Choice.{pick};
@@ -31,9 +30,9 @@ pub enum Built {
 }
 
 // The row and the unit where the next duty starts.
-pub struct Place {
-    pub row: Row,
-    pub unit: u32,
+struct Place {
+    row: Row,
+    unit: u32,
 }
 
 // ---- the duties
@@ -183,7 +182,8 @@ fn put_duty_runs(out: &mut [u8], t: u32, n: u32, i: u32, from: Place) -> usize
 {
     let row = from.row.0;
     let unit = from.unit;
-    if unit + n <= t {
+    let end = unit + n;
+    if end <= t {
         put_run(
             out,
             Run {
@@ -210,7 +210,7 @@ fn put_duty_runs(out: &mut [u8], t: u32, n: u32, i: u32, from: Place) -> usize
             row: Row(row + 1),
             duty: i,
             first: 0,
-            length: unit + n - t,
+            length: end - t,
         },
     );
     22

@@ -1,69 +1,90 @@
+-- `build`: the tests 1 to 5 in their order; past them the greatest common divisor of the periods is the block length, and everything is in range.
+-- Assumes nothing.
+use Prim.Native.Nat.{ℕ}
+use mathlib.Core.Path.{_≡_, sym, ap, _∙_}
+use mathlib.Core.Bool.{not, false}
+use native.Mathlib.Omega.{arith}
+use lib.ListN.{length}
+use Rattle.paper.specs.Bytes.{within}
+use Rattle.paper.specs.Builder.{dutiesOf}
+use Rattle.builder.specs.Built.{Paired, buildAt}
+use Rattle.builder.proofs.Refusals.{does, refuses, refusal-1, refusal-2, refusal-3, refusal-4-5, past-5, ready, inside}
 use borrow.Author.Needs.{needs}
 use Rattle.builder.proofs.build.Statement.{statement}
 use Rattle.builder.proofs.build.Tie as tie
-use Rattle.builder.proofs.build.Reads as reads
-use Rattle.builder.proofs.build.Lts as lts
-use Rattle.builder.proofs.bad_range.Reads as bad-range-reads
-use Rattle.builder.proofs.between.Reads as between-reads
-use Rattle.builder.proofs.build_at.Reads as build-at-reads
-use Rattle.builder.proofs.range_fault.Reads as range-fault-reads
-use Rattle.numbers.proofs.gcd_of_all.Reads as gcd-of-all-reads
 
--- src/lib.rt:300:9
 between-requires : tie.Need-between-requires
 between-requires c κs = search needs
 
--- src/lib.rt:301:9
 returns : tie.Need-returns
-returns c = ?
+returns c = refuses 1 0 _ (refusal-1 _ _ _ _ (sym (ap not (c .before .between .ensures)) ∙ c .if1 .taken))
 
--- src/lib.rt:305:9
+-- past the first test the engines are in range, past the third the number of duties is
+engines-in : (c : tie.Else1) → not (within 1 32 (c .before .before .before .before .before .args .engines)) ≡ false
+engines-in c = sym (ap not (c .before .between .ensures)) ∙ c .if1 .left
+
+duties-in : (c : tie.Else3) → not (within 1 64 (length (c .before .before .before .before .before .before .before .before .args .services .now))) ≡ false
+duties-in c = sym (ap not (c .before .between2 .ensures)) ∙ c .if3 .left
+
 returns-2 : tie.Need-returns-2
-returns-2 c = ?
+returns-2 c = refuses 2 0 _ (refusal-2 _ _ _ _ (engines-in (c .before)) (search needs))
 
--- src/lib.rt:307:9
 between-requires-2 : tie.Need-between-requires-2
 between-requires-2 c κs = search needs
 
--- src/lib.rt:308:9
 returns-3 : tie.Need-returns-3
-returns-3 c = ?
+returns-3 c = refuses 3 0 _ (refusal-3 _ _ _ _ (engines-in (c .before .before .before)) (search needs) (sym (ap not (c .before .between2 .ensures)) ∙ c .if3 .taken))
 
--- src/lib.rt:310:9
 bad-range-requires : tie.Need-bad-range-requires
-bad-range-requires c κs = ?
+bad-range-requires c κs = let d = inside 1 64 (length (c .before .before .before .before .before .before .before .before .args .services .now)) (duties-in c) in search needs
 
--- src/lib.rt:312:28
 mul-range-fault : tie.Need-mul-range-fault
 mul-range-fault c = search needs
 
--- src/lib.rt:312:28
 shared-slice-read-range-fault : tie.Need-shared-slice-read-range-fault
 shared-slice-read-range-fault c = search needs
 
--- src/lib.rt:312:9
 range-fault-requires : tie.Need-range-fault-requires
 range-fault-requires c κs = search needs
 
--- src/lib.rt:312:9
 returns-4 : tie.Need-returns-4
-returns-4 c = ?
+returns-4 c =
+    let args = c .before .before .before .before .before .before .before .before .before .before .before .before .args in
+    let m = args .engines in
+    let ss = args .services .now in
+    let ps = args .periods .now in
+    let out = args .out .now in
+    let bad = c .before .before .before .bad-range in
+    refusal-4-5 m ss ps (length out) (bad .result) (c .range-fault .result) out (engines-in (c .before .before .before .before .before .before .before)) (search needs) (duties-in (c .before .before .before .before)) (bad .ensures) (search needs) (c .range-fault .ensures)
 
--- src/lib.rt:314:9
 gcd-of-all-requires : tie.Need-gcd-of-all-requires
 gcd-of-all-requires c κs = search needs
 
--- src/lib.rt:315:5
 build-at-requires : tie.Need-build-at-requires
-build-at-requires c κs = ?
+build-at-requires c κs =
+    let args = c .before .before .before .before .before .before .before .before .before .before .before .before .args in
+    let m = args .engines in
+    let ss = args .services .now in
+    let ps = args .periods .now in
+    let d = inside 1 64 (length ss) (duties-in (c .before .before .before .before)) in
+    let e = inside 1 32 m (engines-in (c .before .before .before .before .before .before .before)) in
+    let p : Paired ss ps = search needs in
+    (rw (c .before .gcd-of-all .ensures) (ready ss ps p (d .0) (omega (arith, c .before .before .before .bad-range .ensures))), e .1)
 
--- src/lib.rt:297:1
 same-length : tie.Need-same-length
 same-length c = search needs
 
--- src/lib.rt:297:1
 returns-5 : tie.Need-returns-5
-returns-5 c = ?
+returns-5 c =
+    let args = c .before .before .before .before .before .before .before .before .before .before .before .before .before .before .before .args in
+    let m = args .engines in
+    let ss = args .services .now in
+    let ps = args .periods .now in
+    let out = args .out .now in
+    does (c .before .before .build-at .result) out _ _ _
+    (past-5 m ss ps (length out) (engines-in (c .before .before .before .before .before .before .before .before .before .before)) (search needs) (duties-in (c .before .before .before .before .before .before .before)) (omega (arith, c .before .before .before .before .before .before .bad-range .ensures))
+    ∙ ap (λ (t : ℕ). buildAt t m (dutiesOf ss ps) (length out)) (sym (c .before .before .before .before .gcd-of-all .ensures)))
+    (c .before .before .build-at .ensures)
 
 pub build-spec : {M : Type 1} → statement M
 build-spec =
