@@ -16,8 +16,9 @@ use Rattle.paper.specs.declared.Duty.{Duty}
 use Rattle.paper.specs.Words.{duty, dutyAt}
 use Rattle.paper.specs.Outcome.{Outcome, refused, answer, andThen}
 use Rattle.paper.specs.Text.{linesOf, dutyRead, dutiesFrom}
+use Rattle.plan_input.specs.Line.{lineGood}
 use Rattle.plan_input.specs.Taken.{servicesIn, periodsIn}
-use Rattle.plan_input.proofs.Lines.{feedIn, lineGood, duties-none, duties-bad, duties-good, good-place}
+use Rattle.plan_input.proofs.Lines.{feedIn, duties-none, duties-bad, duties-good, good-place}
 
 -- services and periods: the two lists after i duties; at: where the lines that are left start
 pub record Reading (b services periods : List ℕ) (i at : ℕ) : Type 0 where
