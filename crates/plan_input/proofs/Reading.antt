@@ -3,13 +3,12 @@
 -- Assumes nothing.
 use Prim.Native.Nat.{ℕ, _+_, _≤_, _<_}
 use mathlib.Core.Path.{_≡_, refl, sym, ap, _∙_}
-use mathlib.Core.Bool.{Bool, true, false}
+use mathlib.Core.Bool.{true, false}
 use mathlib.Core.List.{List, [], _∷_, _++_, append-assoc, append-nil}
 use native.Mathlib.Nat.{add-assoc}
 use native.Mathlib.Omega.{arith}
-use lib.ListN.{length, getD, take, drop, set, length-append, length-drop, List·getD-append, List·getD-eq-default}
+use lib.ListN.{length, take, drop, set, length-append, length-drop, List·getD-append, List·getD-eq-default}
 use lib.Seq.{drop-drop, getD-append-seam}
-use Rattle.laws.specs.Lists.{tab}
 use Rattle.laws.proofs.Cases.{lt-or-le}
 use Rattle.laws.proofs.Lists.{set-tab}
 use Rattle.paper.specs.declared.Duty.{Duty}

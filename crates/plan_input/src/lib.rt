@@ -3,11 +3,11 @@
 ghost use mathlib.Core.Path.{_≡_};
 ghost use mathlib.Core.Bool.{true};
 ghost use Prim.Native.Nat.{_+_, _≤_, _<_};
-ghost use lib.ListN.{length, getD, drop};
+ghost use lib.ListN.{length, getD};
 ghost use lib.Dec.{eqb};
 ghost use Rattle.laws.specs.Search.{first};
 ghost use Rattle.paper.specs.Bytes.{within};
-ghost use Rattle.paper.specs.Text.{linesOf, allDigits, isNumber, value, isDash, engineLineGood, enginesRead, spaceIn, dutyLineGood, dutyRead, dutiesFrom, input};
+ghost use Rattle.paper.specs.Text.{linesOf, allDigits, isNumber, value, isDash, engineLineGood, enginesRead, dutyLineGood, dutyRead, dutiesFrom, input};
 ghost use Rattle.plan_input.specs.Line.{lineGood};
 ghost use Rattle.plan_input.specs.Taken.{faultAt, asTaken, withEngines};
 use paper::Duty;
