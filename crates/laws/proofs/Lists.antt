@@ -177,3 +177,11 @@ set-tab n i v f g h e o =
         by-cases (eqb k i)
         (λ q. let p = eqb-true k i q in rw p (getD-set-same (tab n f) i v 0 (rw length-tab h) ∙ e))
         (λ q. let p = borrow.Author.Tests.eqb-false k i q in getD-set-other (tab n f) i k v 0 p ∙ getD-tab n f 0 k m ∙ o k p)
+
+-- ---- what is left of `flat` at an index, and at the end
+
+pub flat-left : {A B : Type 0} (f : A → List B) (d : A) (l : List A) (k : ℕ) → k < length l → flat f (drop k l) ≡ f (getD l k d) ++ flat f (drop (k + 1) l)
+flat-left f d l k h = rw (add-one, drop-cons l k d) (flat-step f (getD l k d) (drop (suc k) l))
+
+pub flat-none : {A B : Type 0} (f : A → List B) (l : List A) (k : ℕ) → length l ≤ k → flat f (drop k l) ≡ []
+flat-none f l k h = rw (drop-of-length-le l h) (flat-end f)
