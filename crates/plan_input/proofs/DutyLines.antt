@@ -2,7 +2,7 @@
 -- has nothing after it, and nothing is no number.
 -- Assumes nothing.
 use Prim.Native.Nat.{ℕ, _+_, _-_, _≤_, _<_}
-use mathlib.Core.Path.{_≡_, refl, sym, ap, _∙_}
+use mathlib.Core.Path.{_≡_, sym, ap, _∙_}
 use mathlib.Core.Bool.{Bool, true, false, _&&_}
 use mathlib.Core.List.{List}
 use native.Mathlib.Omega.{arith}
@@ -10,7 +10,6 @@ use lib.ListN.{length, take, drop, length-drop, length-take}
 use lib.Seq.{take-all}
 use Rattle.laws.proofs.Cases.{lt-or-le, not-both, and-no}
 use Rattle.laws.proofs.Lists.{and-left, and-right}
-use Rattle.paper.specs.declared.Duty.{Duty}
 use Rattle.paper.specs.Words.{duty}
 use Rattle.paper.specs.Text.{isNumber, value, spaceIn, dutyLineGood, dutyRead}
 use Rattle.plan_input.proofs.Numbers.{number-none}

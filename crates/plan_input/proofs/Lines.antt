@@ -2,7 +2,7 @@
 -- a text are told by where the first line feed stands, what stands before it and what is left after it.
 -- Assumes nothing.
 use Prim.Native.Nat.{ℕ, zero, suc, _+_, _≤_, _<_}
-use mathlib.Core.Path.{_≡_, refl, sym, ap, _∙_}
+use mathlib.Core.Path.{_≡_, refl, ap, _∙_}
 use mathlib.Core.Bool.{Bool, true, false, not, _&&_}
 use mathlib.Core.List.{List, [], _∷_}
 use native.Mathlib.Nat.{not-suc-le-zero, le-of-suc-le-suc}
@@ -16,9 +16,9 @@ use Rattle.laws.specs.Search.{first}
 use Rattle.laws.proofs.Cases.{lt-or-le, and-no}
 use Rattle.laws.proofs.Lists.{and-left, and-right}
 use Rattle.laws.proofs.Search.{Clear, first-clear, first-holds, first-le}
-use Rattle.paper.specs.declared.Duty.{Duty}
-use Rattle.paper.specs.Outcome.{Outcome, refused, answer, andThen}
-use Rattle.paper.specs.Text.{Lines, none, line, onto, linesOf, dutyLineGood, dutyRead, dutiesFrom, Input, engineLineGood, enginesRead, inputOf, input}
+use Rattle.paper.specs.Outcome.{refused, answer, andThen}
+use Rattle.paper.specs.Text.{none, line, onto, linesOf, dutyLineGood, dutyRead, dutiesFrom, engineLineGood, enginesRead, inputOf, input}
+use Rattle.plan_input.specs.Line.{lineGood}
 use Rattle.plan_input.specs.Taken.{withEngines}
 
 -- the byte at k is a line feed
@@ -79,10 +79,6 @@ duties-ended :
     (refused 9 n)
 unfolding dutiesFrom
 duties-ended n xs k e h = rw (lines-ended xs k e h)
-
--- the tests of the line of duty i, which is line i + 2, where the first line feed is at k
-unfoldable pub lineGood : ℕ → List ℕ → ℕ → Bool
-lineGood i xs k = ltb k (length xs) && ltb i 64 && dutyLineGood (take k xs)
 
 duties-late : (i : ℕ) (xs : List ℕ) (k : ℕ) → k ≡ feedIn xs → k < length xs → 64 ≤ i → dutiesFrom (i + 2) (linesOf xs) ≡ refused 9 (i + 2)
 duties-late i xs k e l m = duties-ended (i + 2) xs k e l ∙ rw (lt-ltb 65 (i + 2) (omega arith), and-no (dutyLineGood (take k xs)))

@@ -1,6 +1,5 @@
--- Numbers as digits. A loop over the digits goes by what is left of them; what it has so far never passes the whole value,
--- and a number of at most nine digits is below 1,000,000,000, since each digit adds less than a tenth of what it is written
--- before.
+-- Numbers as digits. A loop over the digits goes by what is left of them. What it has so far is never more than the whole
+-- value, and n digits after v stay below v + 1 and n zeros: so with nine digits every number on the way fits.
 -- Assumes nothing.
 use Prim.Native.Nat.{ℕ, zero, suc, _+_, _-_, _*_, _^_, _≤_, _<_}
 use mathlib.Core.Path.{_≡_, refl, sym, ap, _∙_}

@@ -3,21 +3,21 @@
 -- Assumes nothing.
 use Prim.Native.Nat.{ℕ, _+_, _≤_, _<_}
 use mathlib.Core.Path.{_≡_, refl, sym, ap, _∙_}
-use mathlib.Core.Bool.{Bool, true, false}
+use mathlib.Core.Bool.{true, false}
 use mathlib.Core.List.{List, [], _∷_, _++_, append-assoc, append-nil}
 use native.Mathlib.Nat.{add-assoc}
 use native.Mathlib.Omega.{arith}
-use lib.ListN.{length, getD, take, drop, set, length-append, length-drop, List·getD-append, List·getD-eq-default}
+use lib.ListN.{length, take, drop, set, length-append, length-drop, List·getD-append, List·getD-eq-default}
 use lib.Seq.{drop-drop, getD-append-seam}
-use Rattle.laws.specs.Lists.{tab}
 use Rattle.laws.proofs.Cases.{lt-or-le}
 use Rattle.laws.proofs.Lists.{set-tab}
 use Rattle.paper.specs.declared.Duty.{Duty}
 use Rattle.paper.specs.Words.{duty, dutyAt}
 use Rattle.paper.specs.Outcome.{Outcome, refused, answer, andThen}
 use Rattle.paper.specs.Text.{linesOf, dutyRead, dutiesFrom}
+use Rattle.plan_input.specs.Line.{lineGood}
 use Rattle.plan_input.specs.Taken.{servicesIn, periodsIn}
-use Rattle.plan_input.proofs.Lines.{feedIn, lineGood, duties-none, duties-bad, duties-good, good-place}
+use Rattle.plan_input.proofs.Lines.{feedIn, duties-none, duties-bad, duties-good, good-place}
 
 -- services and periods: the two lists after i duties; at: where the lines that are left start
 pub record Reading (b services periods : List ℕ) (i at : ℕ) : Type 0 where

@@ -4,7 +4,7 @@
 use Prim.Native.Nat.{ℕ, _+_, _-_, _≤_, _<_}
 use mathlib.Core.Path.{_≡_, refl, sym, ap, _∙_}
 use mathlib.Core.Bool.{Bool, true, false, not, _&&_}
-use mathlib.Core.List.{List, [], _∷_}
+use mathlib.Core.List.{List, _∷_}
 use native.Mathlib.Omega.{arith}
 use lib.Dec.{ltb}
 use lib.ListN.{length, getD}
@@ -17,7 +17,6 @@ use Rattle.paper.specs.declared.Duty.{Duty}
 use Rattle.paper.specs.Words.{duty, dutyAt}
 use Rattle.paper.specs.Outcome.{Outcome, refused, answer, andThen}
 use Rattle.paper.specs.Text.{Lines, none, line, linesOf, dutyLineGood, dutyRead, dutiesFrom, Input, engineLineGood, enginesRead, inputOf, mostInput, input}
-use Rattle.plan_input.specs.declared.Taken.{Taken}
 use Rattle.plan_input.specs.Taken.{servicesIn, periodsIn, asTaken, told, withEngines}
 
 -- a refusal has number 9, an answer at most m duties

@@ -3,11 +3,12 @@
 ghost use mathlib.Core.Path.{_≡_};
 ghost use mathlib.Core.Bool.{true};
 ghost use Prim.Native.Nat.{_+_, _≤_, _<_};
-ghost use lib.ListN.{length, getD, drop};
+ghost use lib.ListN.{length, getD};
 ghost use lib.Dec.{eqb};
 ghost use Rattle.laws.specs.Search.{first};
 ghost use Rattle.paper.specs.Bytes.{within};
-ghost use Rattle.paper.specs.Text.{linesOf, allDigits, isNumber, value, isDash, engineLineGood, enginesRead, spaceIn, dutyLineGood, dutyRead, dutiesFrom, input};
+ghost use Rattle.paper.specs.Text.{linesOf, allDigits, isNumber, value, isDash, engineLineGood, enginesRead, dutyLineGood, dutyRead, dutiesFrom, input};
+ghost use Rattle.plan_input.specs.Line.{lineGood};
 ghost use Rattle.plan_input.specs.Taken.{faultAt, asTaken, withEngines};
 use paper::Duty;
 
@@ -155,6 +156,15 @@ fn faulty(line: usize) -> Taken
     }
 }
 
+// Whether the line before the line feed at `end` can be that of duty i: it is ended, no later than line 65, and a service
+// and a period.
+fn line_good(rest: &[u8], end: usize, i: usize) -> bool
+    requires { ⌜ end ≤ length (now rest) ⌝ }
+    ensures { λ r. ⌜ r ≡ lineGood i (now (rest .entry)) end ⌝ }
+{
+    (end < rest.len()) & (i < 64) & duty_line_good(&rest[..end])
+}
+
 // The duties of the lines after the first, which named the engines: of each line its end, then what stands before it.
 // Line i + 2 is that of duty i.
 fn read_duties(b: &[u8], engines: u32) -> Taken
@@ -167,8 +177,7 @@ fn read_duties(b: &[u8], engines: u32) -> Taken
     while at < b.len() {
         let rest = &b[at..];
         let end = find(rest, 10);
-        let good = (end < rest.len()) & (i < 64) & duty_line_good(&rest[..end]);
-        if !good {
+        if !line_good(rest, end, i) {
             return faulty(i + 2);
         }
         let x = duty_read(&rest[..end]);

@@ -1,10 +1,10 @@
 -- `all_digits`: what is left are digits exactly where all are.
 -- Assumes nothing.
-use mathlib.Core.Path.{_≡_, refl, sym, ap, _∙_}
-use Prim.Native.Nat.{_+_, _≤_, _-_}
+use mathlib.Core.Path.{_≡_, refl, sym, _∙_}
+use Prim.Native.Nat.{_≤_, _-_}
 use borrow.Author.Needs.{needs}
 use borrow.Author.Tests.{not-true, not-false}
-use lib.ListN.{length, getD, drop}
+use lib.ListN.{length, drop}
 use Rattle.paper.specs.Text.{allDigits}
 use Rattle.plan_input.proofs.Numbers.{digits-further, digits-broken, digits-end}
 use Rattle.plan_input.proofs.all_digits.Statement.{statement}

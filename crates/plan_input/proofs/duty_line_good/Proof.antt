@@ -1,6 +1,6 @@
 -- `duty_line_good`: both parts are numbers, and there is a space.
 -- Assumes nothing.
-use mathlib.Core.Path.{_≡_, refl, sym, ap, _∙_}
+use mathlib.Core.Path.{sym}
 use native.Mathlib.Omega.{arith}
 use borrow.Author.Needs.{needs}
 use Rattle.plan_input.proofs.DutyLines.{part-long, duty-none, duty-good}

@@ -1,6 +1,6 @@
 -- `duty_read`: the numbers before and after the space that a good line has.
 -- Assumes nothing.
-use mathlib.Core.Path.{_≡_, refl, sym, ap, _∙_}
+use mathlib.Core.Path.{sym}
 use native.Mathlib.Omega.{arith}
 use borrow.Author.Needs.{needs}
 use Rattle.plan_input.proofs.DutyLines.{part-long, duty-inside, duty-before, duty-after, duty-is}

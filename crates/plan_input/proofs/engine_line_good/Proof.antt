@@ -1,6 +1,5 @@
 -- `engine_line_good`: the two tests of the definition.
 -- Assumes nothing.
-use mathlib.Core.Path.{_≡_, refl, sym, ap, _∙_}
 use borrow.Author.Needs.{needs}
 use Rattle.paper.specs.Text.{engineLineGood}
 use Rattle.plan_input.proofs.engine_line_good.Statement.{statement}

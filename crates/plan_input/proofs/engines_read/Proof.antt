@@ -1,6 +1,6 @@
 -- `engines_read`: a line that is good and no `-` is a number.
 -- Assumes nothing.
-use mathlib.Core.Path.{_≡_, refl, sym, ap, _∙_}
+use mathlib.Core.Path.{sym, _∙_}
 use borrow.Author.Needs.{needs}
 use Rattle.plan_input.proofs.EngineLine.{engine-number, engines-dash, engines-number}
 use Rattle.plan_input.proofs.engines_read.Statement.{statement}

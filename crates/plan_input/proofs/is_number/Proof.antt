@@ -1,6 +1,6 @@
 -- `is_number`: some bytes, at most nine, all digits, and no zero before others.
 -- Assumes nothing.
-use mathlib.Core.Path.{_≡_, refl, sym, ap, _∙_}
+use mathlib.Core.Path.{sym}
 use borrow.Author.Needs.{needs}
 use Rattle.plan_input.proofs.Numbers.{number-none, number-some}
 use Rattle.plan_input.proofs.is_number.Statement.{statement}

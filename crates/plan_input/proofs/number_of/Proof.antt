@@ -1,9 +1,9 @@
 -- `number_of`: the value so far with the digits that are left is that of all; it never passes nine digits.
 -- Assumes nothing.
-use mathlib.Core.Path.{_≡_, refl, sym, ap, _∙_}
-use Prim.Native.Nat.{_+_, _≤_, _-_}
+use mathlib.Core.Path.{_≡_, refl, sym, _∙_}
+use Prim.Native.Nat.{_≤_, _-_}
 use borrow.Author.Needs.{needs}
-use lib.ListN.{length, getD, drop}
+use lib.ListN.{length, drop}
 use native.Mathlib.Omega.{arith}
 use Rattle.paper.specs.Text.{valueFrom, value}
 use Rattle.plan_input.proofs.Numbers.{digit-at, number-digits, next-below, value-step, value-end}

@@ -1,10 +1,9 @@
 -- `read_input`: not too long, a first line, and the duties of what is left after it.
 -- Assumes nothing.
-use mathlib.Core.Path.{_≡_, refl, sym, ap, _∙_}
+use mathlib.Core.Path.{sym, ap, _∙_}
 use Prim.Native.Nat.{_+_}
 use native.Mathlib.Omega.{arith}
 use borrow.Author.Needs.{needs}
-use lib.ListN.{length, take, drop}
 use borrow.Author.Tests.{not-true, not-false}
 use Rattle.plan_input.specs.Taken.{asTaken}
 use Rattle.plan_input.proofs.DutyLines.{part-rest, part-long}
