@@ -32,7 +32,7 @@ use Rattle.rotation.specs.Edges.{startsOf, endsOf, linkOf}
 use Rattle.rotation.proofs.Reading.{runs-length, table-runs, table-ticks, table-engines}
 use Rattle.rotation.proofs.Linking.{row-read}
 use Rattle.answers.specs.Ready.{Ready}
-use Rattle.answers.specs.Told.{replyOf, nextOf, rowOf}
+use Rattle.answers.specs.Told.{replyOf, nextState, rowBy}
 
 -- an engine is one of the table's exactly where it is one of the reading's
 pub engine-some : {b : List ℕ} {rd : Reading} → Readable b rd → (e : Engine) → e .0 < rd .engines → ltb (e .0) (tableOf b rd .engines) ≡ true
@@ -77,23 +77,23 @@ pub same-all : (a b : List ℕ) → length a ≡ 32 → length b ≡ 32 → ((k 
 same-all a b la lb h = same-list-of-eq a b (ext-getD 0 a b (omega arith) (λ k l. h k (omega arith)))
 
 -- the next state, by the tests on the way: 20, then 21
-pub next-foreign : (t : Table) (s : State) → same-list (s .rows) (rowsAt t (s .block)) ≡ false → nextOf t s ≡ refused 20 0
+pub next-foreign : (t : Table) (s : State) → same-list (s .rows) (rowsAt t (s .block)) ≡ false → nextState t s ≡ refused 20 0
 next-foreign t s h = rw h
 
-pub next-last : (t : Table) (s : State) → same-list (s .rows) (rowsAt t (s .block)) ≡ true → s .block ≡ 2 ^ 64 - 1 → nextOf t s ≡ refused 21 0
+pub next-last : (t : Table) (s : State) → same-list (s .rows) (rowsAt t (s .block)) ≡ true → s .block ≡ 2 ^ 64 - 1 → nextState t s ≡ refused 21 0
 next-last t s h p = rw (h, eq-eqb (s .block) (2 ^ 64 - 1) p)
 
-pub next-is : (t : Table) (s : State) → same-list (s .rows) (rowsAt t (s .block)) ≡ true → (s .block ≡ 2 ^ 64 - 1 → ⊥) → nextOf t s ≡ answer (stateAt t (s .block + 1))
+pub next-is : (t : Table) (s : State) → same-list (s .rows) (rowsAt t (s .block)) ≡ true → (s .block ≡ 2 ^ 64 - 1 → ⊥) → nextState t s ≡ answer (stateAt t (s .block + 1))
 next-is t s h p = rw (h, ne-eqb (s .block) (2 ^ 64 - 1) p)
 
 -- an engine's row, by the tests on the way: 18, then 20
-pub row-none : (t : Table) (s : State) (e : Engine) → ltb (e .0) (t .engines) ≡ false → rowOf t s e ≡ refused 18 0
+pub row-none : (t : Table) (s : State) (e : Engine) → ltb (e .0) (t .engines) ≡ false → rowBy t s e ≡ refused 18 0
 row-none t s e l = rw l
 
-pub row-foreign : (t : Table) (s : State) (e : Engine) → ltb (e .0) (t .engines) ≡ true → same-list (s .rows) (rowsAt t (s .block)) ≡ false → rowOf t s e ≡ refused 20 0
+pub row-foreign : (t : Table) (s : State) (e : Engine) → ltb (e .0) (t .engines) ≡ true → same-list (s .rows) (rowsAt t (s .block)) ≡ false → rowBy t s e ≡ refused 20 0
 row-foreign t s e l h = rw (l, h)
 
-pub row-is : (t : Table) (s : State) (e : Engine) → ltb (e .0) (t .engines) ≡ true → same-list (s .rows) (rowsAt t (s .block)) ≡ true → rowOf t s e ≡ answer (rowAt (link t) (s .block) e)
+pub row-is : (t : Table) (s : State) (e : Engine) → ltb (e .0) (t .engines) ≡ true → same-list (s .rows) (rowsAt t (s .block)) ≡ true → rowBy t s e ≡ answer (rowAt (link t) (s .block) e)
 row-is t s e l h = rw (l, h)
 
 -- ---- the count

@@ -68,11 +68,11 @@ countAs (NoCount number place) = refused number place
 abbrev pub replyOf : Table → Engine → ℕ → Outcome Reply
 replyOf t e k = ofEngine t e (answer (record { held = walk t e k; row = rowAt (link t) (k / t .ticks) e }))
 
-abbrev pub rowOf : Table → State → Engine → Outcome Row
-rowOf t s e = ofEngine t e (ofState t s (answer (rowAt (link t) (s .block) e)))
+abbrev pub rowBy : Table → State → Engine → Outcome Row
+rowBy t s e = ofEngine t e (ofState t s (answer (rowAt (link t) (s .block) e)))
 
-abbrev pub nextOf : Table → State → Outcome State
-nextOf t s = ofState t s (pick (eqb (s .block) (2 ^ 64 - 1)) (refused 21 0) (answer (stateAt t (s .block + 1))))
+abbrev pub nextState : Table → State → Outcome State
+nextState t s = ofState t s (pick (eqb (s .block) (2 ^ 64 - 1)) (refused 21 0) (answer (stateAt t (s .block + 1))))
 
 abbrev pub countOf : Table → ℕ → Outcome ℕ
 countOf t n = pick (ltb mostBlocks n) (refused 19 0) (answer (loads t n))

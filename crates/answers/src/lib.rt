@@ -6,8 +6,8 @@ ghost use lib.ListN.{length, getD};
 ghost use Rattle.laws.specs.Lists.{same-list};
 ghost use Rattle.paper.specs.Words.{row};
 ghost use Rattle.paper.specs.Schedule.{loads};
-ghost use Rattle.paper.specs.Outcome.{answer, refused};
-ghost use Rattle.paper.specs.Answers.{rowsAt, stateAt, mostBlocks};
+ghost use Rattle.paper.specs.Outcome.{answer, refused, faultNumber, faultPlace};
+ghost use Rattle.paper.specs.Answers.{question, start, advanced, rowTold, counted, rowsAt, stateAt, mostBlocks};
 ghost use Rattle.rotation.specs.Readable.{tableOf};
 ghost use Rattle.answers.specs.Ready.{Ready};
 ghost use Rattle.answers.specs.Told.{
@@ -19,12 +19,15 @@ ghost use Rattle.answers.specs.Told.{
   rowAs,
   countAs,
   replyOf,
-  rowOf,
-  nextOf,
+  rowBy,
+  nextState,
   countOf,
 };
+use judge::judge;
 use paper::Engine;
+use paper::Fault;
 use paper::Held;
+use paper::Judged;
 use paper::Reading;
 use paper::Row;
 use rotation::carried;
@@ -38,6 +41,40 @@ const MOST_ENGINES: usize = 32;
 const MOST_BLOCKS: u64 = 1000000000000;
 
 const LAST_BLOCK: u64 = 18446744073709551615;
+
+// ---- the judge's faults
+
+// A fault's number.
+fn number_of(fault: Fault) -> u32
+    ensures { λ r. ⌜ r ≡ faultNumber fault ⌝ }
+{
+    match fault {
+        Fault::Form(_) => 10,
+        Fault::BlockLength => 11,
+        Fault::Slice(_) => 12,
+        Fault::Order(_) => 13,
+        Fault::Overlap(_) => 14,
+        Fault::Joint(_) => 15,
+        Fault::Twice(_) => 16,
+        Fault::Service(_) => 17,
+    }
+}
+
+// A fault's place: an offset, a duty or a run.
+fn place_of(fault: Fault) -> usize
+    ensures { λ r. ⌜ r ≡ faultPlace fault ⌝ }
+{
+    match fault {
+        Fault::Form(at) => at,
+        Fault::BlockLength => 0,
+        Fault::Slice(d) => d,
+        Fault::Order(k) => k,
+        Fault::Overlap(k) => k,
+        Fault::Joint(k) => k,
+        Fault::Twice(k) => k,
+        Fault::Service(d) => d,
+    }
+}
 
 // ---- the direct question
 
@@ -61,6 +98,16 @@ fn reply(b: &[u8], rd: Reading, engine: Engine, tick: u64) -> Answer
     match held(b, rd, row, (tick % t) as u32) {
         Held::By(duty) => Answer::Serves(duty, row),
         Held::Idle => Answer::Idle(row),
+    }
+}
+
+// What an engine runs at a tick, and on which row.
+pub fn question(b: &[u8], engine: Engine, tick: u64) -> Answer
+    ensures { λ r. ⌜ answerAs r ≡ question (now (b .entry)) engine tick ⌝ }
+{
+    match judge(b) {
+        Judged::Accepted(rd) => reply(b, rd, engine, tick),
+        Judged::Bad(fault) => Answer::Refused(number_of(fault), place_of(fault)),
     }
 }
 
@@ -157,7 +204,7 @@ fn refuse(number: u32, place: usize) -> Dispatched
 // The state after a state, on an accepted table.
 fn next_of(b: &[u8], rd: Reading, s: Dispatcher) -> Dispatched
     requires { ⌜ Ready (now b) rd ⌝ }
-    ensures { λ r. ⌜ dispatchedAs r ≡ handed (nextOf (tableOf (now (b .entry)) rd) (stateAs s)) ⌝ }
+    ensures { λ r. ⌜ dispatchedAs r ≡ handed (nextState (tableOf (now (b .entry)) rd) (stateAs s)) ⌝ }
 {
     if !is_own(b, rd, s) {
         return refuse(20, 0);
@@ -172,7 +219,7 @@ fn next_of(b: &[u8], rd: Reading, s: Dispatcher) -> Dispatched
 // The row of an engine by a state, on an accepted table.
 fn tell(b: &[u8], rd: Reading, s: Dispatcher, engine: Engine) -> RowTold
     requires { ⌜ Ready (now b) rd ⌝ }
-    ensures { λ r. ⌜ rowAs r ≡ rowOf (tableOf (now (b .entry)) rd) (stateAs s) engine ⌝ }
+    ensures { λ r. ⌜ rowAs r ≡ rowBy (tableOf (now (b .entry)) rd) (stateAs s) engine ⌝ }
 {
     if rd.engines <= engine.0 {
         return RowTold::Refused(18, 0);
@@ -181,6 +228,38 @@ fn tell(b: &[u8], rd: Reading, s: Dispatcher, engine: Engine) -> RowTold
         return RowTold::Refused(20, 0);
     }
     RowTold::At(row_of(b, rd, engine, s.block))
+}
+
+impl Dispatcher {
+    // The state of any named block.
+    pub fn start(b: &[u8], block: u64) -> Dispatched
+        ensures { λ r. ⌜ dispatchedAs r ≡ handed (start (now (b .entry)) block) ⌝ }
+    {
+        match judge(b) {
+            Judged::Accepted(rd) => done(b, rd, block),
+            Judged::Bad(fault) => refuse(number_of(fault), place_of(fault)),
+        }
+    }
+
+    // The state of the next block.
+    pub fn next(self, b: &[u8]) -> Dispatched
+        ensures { λ r. ⌜ dispatchedAs r ≡ handed (advanced (now (b .entry)) (stateAs self)) ⌝ }
+    {
+        match judge(b) {
+            Judged::Accepted(rd) => next_of(b, rd, self),
+            Judged::Bad(fault) => refuse(number_of(fault), place_of(fault)),
+        }
+    }
+
+    // The row of an engine.
+    pub fn row(self, b: &[u8], engine: Engine) -> RowTold
+        ensures { λ r. ⌜ rowAs r ≡ rowTold (now (b .entry)) (stateAs self) engine ⌝ }
+    {
+        match judge(b) {
+            Judged::Accepted(rd) => tell(b, rd, self, engine),
+            Judged::Bad(fault) => RowTold::Refused(number_of(fault), place_of(fault)),
+        }
+    }
 }
 
 // ---- the count of loads
@@ -218,4 +297,14 @@ fn count_in(b: &[u8], rd: Reading, blocks: u64) -> Counted
         return Counted::Refused(19, 0);
     }
     Counted::Loads(loads_in(b, rd, blocks))
+}
+
+// The loads of the first blocks of a table.
+pub fn count(b: &[u8], blocks: u64) -> Counted
+    ensures { λ r. ⌜ countAs r ≡ counted (now (b .entry)) blocks ⌝ }
+{
+    match judge(b) {
+        Judged::Accepted(rd) => count_in(b, rd, blocks),
+        Judged::Bad(fault) => Counted::Refused(number_of(fault), place_of(fault)),
+    }
 }
