@@ -1,28 +1,14 @@
 // What is asked of table bytes: which duty an engine runs at a tick, the dispatcher that goes from block to block, and
 // the count of loads. The bytes are judged first. Nothing walks over blocks or ticks.
 ghost use mathlib.Core.Path.{_≡_};
-ghost use Prim.Native.Nat.{_+_, _*_, _≤_, _<_};
-ghost use lib.ListN.{length, getD};
+ghost use Prim.Native.Nat.{_≤_};
 ghost use Rattle.laws.specs.Lists.{same-list};
-ghost use Rattle.paper.specs.Words.{row};
 ghost use Rattle.paper.specs.Schedule.{loads};
 ghost use Rattle.paper.specs.Outcome.{answer, refused, faultNumber, faultPlace};
 ghost use Rattle.paper.specs.Answers.{question, start, advanced, rowTold, counted, rowsAt, stateAt, mostBlocks};
 ghost use Rattle.rotation.specs.Readable.{tableOf};
 ghost use Rattle.answers.specs.Ready.{Ready};
-ghost use Rattle.answers.specs.Told.{
-  answerAs,
-  stateAs,
-  none,
-  handed,
-  dispatchedAs,
-  rowAs,
-  countAs,
-  replyOf,
-  rowBy,
-  nextState,
-  countOf,
-};
+ghost use Rattle.answers.specs.Told.{answerAs, stateAs, handed, dispatchedAs, rowAs, countAs, replyOf, rowBy, nextState, countOf};
 use judge::judge;
 use paper::Engine;
 use paper::Fault;
