@@ -175,7 +175,38 @@ fn put_duties(out: &mut [u8], services: &[u32], periods: &[u32])
     }
 }
 
-// Writes the runs of duty i, whose slice is n, and answers how many bytes they have. At an exact fit there is one.
+// Writes the two runs of duty i, whose slice of n units goes past the end of the row: the first goes to the end, the second
+// starts at unit 0 of the next row and has what is left.
+fn put_split(out: &mut [u8], t: u32, n: u32, i: u32, from: Place)
+    requires { ⌜ (from .unit < t) × (n ≤ t) × (t ≤ mostTicks) × (from .row .0 ≤ small .mostDuties) × (t < from .unit + n) × (22 ≤ length (now out)) ⌝ }
+    ensures { λ r. ⌜ now (out .exit) ≡ over (runsBytes (laidAt t n i from)) (now (out .entry)) ⌝ }
+{
+    let row = from.row.0;
+    let unit = from.unit;
+    let to_end = t - unit;
+    put_run(
+        out,
+        Run {
+            row: Row(row),
+            duty: i,
+            first: unit,
+            length: to_end,
+        },
+    );
+    let next = row + 1;
+    let rest = unit + n - t;
+    put_run(
+        &mut out[11..],
+        Run {
+            row: Row(next),
+            duty: i,
+            first: 0,
+            length: rest,
+        },
+    );
+}
+
+// Writes the runs of duty i, whose slice is n, and answers how many bytes they have. At an exact fit there is one run.
 fn put_duty_runs(out: &mut [u8], t: u32, n: u32, i: u32, from: Place) -> usize
     requires { ⌜ (from .unit < t) × (n ≤ t) × (t ≤ mostTicks) × (from .row .0 ≤ small .mostDuties) × (11 * runsAt t n (from .unit) ≤ length (now out)) ⌝ }
     ensures { λ r. ⌜ (now (out .exit) ≡ over (runsBytes (laidAt t n i from)) (now (out .entry))) × (r ≡ 11 * runsAt t n (from .unit)) ⌝ }
@@ -195,24 +226,7 @@ fn put_duty_runs(out: &mut [u8], t: u32, n: u32, i: u32, from: Place) -> usize
         );
         return 11;
     }
-    put_run(
-        out,
-        Run {
-            row: Row(row),
-            duty: i,
-            first: unit,
-            length: t - unit,
-        },
-    );
-    put_run(
-        &mut out[11..],
-        Run {
-            row: Row(row + 1),
-            duty: i,
-            first: 0,
-            length: end - t,
-        },
-    );
+    put_split(out, t, n, i, from);
     22
 }
 
