@@ -1,0 +1,56 @@
+// A printed line: a word, then each number after a space, in decimal, and a line feed. It is written at the front of a
+// lent rest, and the writer tells how many bytes it took.
+ghost use mathlib.Core.Path.{_≡_};
+ghost use Prim.Native.Nat.{_+_, _≤_};
+ghost use mathlib.Core.List.{_∷_};
+ghost use lib.ListN.{length};
+ghost use Rattle.laws.specs.Lists.{over};
+ghost use Rattle.paper.specs.Text.{decimal, printLine};
+use records::put_bytes;
+
+// How many digits a number has in decimal.
+fn digit_count(n: u64) -> usize
+    ensures { λ r. ⌜ (r ≡ length (decimal n)) × (r ≤ 20) ⌝ }
+{
+    let mut count = 1;
+    let mut left = n;
+    while 10 <= left {
+        left /= 10;
+        count += 1;
+    }
+    count
+}
+
+// A space and a number: the digits are stored from the last to the first.
+fn put_number(out: &mut [u8], n: u64) -> usize
+    requires { ⌜ 1 + length (decimal n) ≤ length (now out) ⌝ }
+    ensures { λ r. ⌜ (r ≡ 1 + length (decimal n)) × (now (out .exit) ≡ over (32 ∷ decimal n) (now (out .entry))) ⌝ }
+{
+    let count = digit_count(n);
+    let mut k = count;
+    let mut left = n;
+    while 0 < k {
+        out[k] = 48 + (left % 10) as u8;
+        left /= 10;
+        k -= 1;
+    }
+    out[0] = 32;
+    count + 1
+}
+
+// A line with its word and its numbers.
+pub fn put_line(out: &mut [u8], word: &[u8], numbers: &[u64]) -> usize
+    requires { ⌜ length (printLine (now word) (now numbers)) ≤ length (now out) ⌝ }
+    ensures { λ r. ⌜ (r ≡ length (printLine (now (word .entry)) (now (numbers .entry))))
+        × (now (out .exit) ≡ over (printLine (now (word .entry)) (now (numbers .entry))) (now (out .entry))) ⌝ }
+{
+    put_bytes(out, word);
+    let mut at = word.len();
+    let mut i = 0;
+    while i < numbers.len() {
+        at += put_number(&mut out[at..], numbers[i]);
+        i += 1;
+    }
+    out[at] = 10;
+    at + 1
+}
