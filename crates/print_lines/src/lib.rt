@@ -1,11 +1,11 @@
 // A printed line: a word, then each number after a space, in decimal, and a line feed. It is written at the front of a
 // lent rest, and the writer tells how many bytes it took.
 ghost use mathlib.Core.Path.{_≡_};
-ghost use Prim.Native.Nat.{_+_, _≤_};
-ghost use mathlib.Core.List.{_∷_};
+ghost use Prim.Native.Nat.{_≤_};
 ghost use lib.ListN.{length};
-ghost use Rattle.laws.specs.Lists.{over};
+ghost use Rattle.laws.specs.Lists.{flat, over};
 ghost use Rattle.paper.specs.Text.{decimal, printLine};
+ghost use Rattle.print_lines.specs.Spaced.{spaced};
 use records::put_bytes;
 
 // How many digits a number has in decimal.
@@ -23,7 +23,7 @@ fn digit_count(n: u64) -> usize
 
 // A space and a number: the digits are stored from the last to the first.
 fn put_number(out: &mut [u8], n: u64) -> usize
-    requires { ⌜ 1 + length (decimal n) ≤ length (now out) ⌝ }
+    requires { ⌜ length (spaced n) ≤ length (now out) ⌝ }
     ensures { λ r. ⌜ (r ≡ 1 + length (decimal n)) × (now (out .exit) ≡ over (32 ∷ decimal n) (now (out .entry))) ⌝ }
 {
     let count = digit_count(n);
@@ -38,19 +38,34 @@ fn put_number(out: &mut [u8], n: u64) -> usize
     count + 1
 }
 
-// A line with its word and its numbers.
-pub fn put_line(out: &mut [u8], word: &[u8], numbers: &[u64]) -> usize
-    requires { ⌜ length (printLine (now word) (now numbers)) ≤ length (now out) ⌝ }
-    ensures { λ r. ⌜ (r ≡ length (printLine (now (word .entry)) (now (numbers .entry))))
-        × (now (out .exit) ≡ over (printLine (now (word .entry)) (now (numbers .entry))) (now (out .entry))) ⌝ }
+// Each number after a space.
+fn put_numbers(out: &mut [u8], numbers: &[u64]) -> usize
+    requires { ⌜ length (flat spaced (now numbers)) ≤ length (now out) ⌝ }
+    ensures {
+        λ r. ⌜ (r ≡ length (flat spaced (now (numbers .entry))))
+            × (now (out .exit) ≡ over (flat spaced (now (numbers .entry))) (now (out .entry))) ⌝
+    }
 {
-    put_bytes(out, word);
-    let mut at = word.len();
+    let mut at = 0;
     let mut i = 0;
     while i < numbers.len() {
         at += put_number(&mut out[at..], numbers[i]);
         i += 1;
     }
-    out[at] = 10;
-    at + 1
+    at
+}
+
+// A line with its word and its numbers.
+pub fn put_line(out: &mut [u8], word: &[u8], numbers: &[u64]) -> usize
+    requires { ⌜ length (printLine (now word) (now numbers)) ≤ length (now out) ⌝ }
+    ensures {
+        λ r. ⌜ (r ≡ length (printLine (now (word .entry)) (now (numbers .entry))))
+            × (now (out .exit) ≡ over (printLine (now (word .entry)) (now (numbers .entry))) (now (out .entry))) ⌝
+    }
+{
+    put_bytes(out, word);
+    let at = word.len();
+    let end = at + put_numbers(&mut out[at..], numbers);
+    out[end] = 10;
+    end + 1
 }
