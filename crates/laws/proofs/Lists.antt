@@ -163,3 +163,11 @@ filled-part f g n m l F e z =
     at k h =
         by-cases (lib.Dec.ltb k m) (λ p. let p′ = borrow.Author.Tests.ltb-true k m p in F .done k p′ ∙ e k p′)
         (λ p. let p′ = borrow.Author.Tests.ltb-false k m p in F .rest k p′ h ∙ sym (z k p′))
+
+-- ---- what is left of `flat` at an index, and at the end
+
+pub flat-left : {A B : Type 0} (f : A → List B) (d : A) (l : List A) (k : ℕ) → k < length l → flat f (drop k l) ≡ f (getD l k d) ++ flat f (drop (k + 1) l)
+flat-left f d l k h = rw (add-one, drop-cons l k d) (flat-step f (getD l k d) (drop (suc k) l))
+
+pub flat-none : {A B : Type 0} (f : A → List B) (l : List A) (k : ℕ) → length l ≤ k → flat f (drop k l) ≡ []
+flat-none f l k h = rw (drop-of-length-le l h) (flat-end f)

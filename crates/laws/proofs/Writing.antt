@@ -92,3 +92,11 @@ room {W} {l} {rest} {xs} {a} r = ap (λ (n : ℕ). n + length rest) (sym (r .len
 -- the rest by another name
 pub next : {W l rest rest′ xs : List ℕ} {a : ℕ} → rest ≡ rest′ → Wrote W l rest xs a → Wrote W l rest′ xs a
 next {W} {l} {rest} {rest′} {xs} {a} e r = record { w = r .w; len = r .len; is = r .is; left = ap (λ (t : List ℕ). r .w ++ t) (sym e) ∙ r .left }
+
+-- the place by another name
+pub moved : {W l rest xs : List ℕ} {a b : ℕ} → a ≡ b → Wrote W l rest xs a → Wrote W l rest xs b
+moved {W} {l} {rest} {xs} {a} {b} e r = record { w = r .w; len = r .len ∙ e; is = r .is; left = r .left }
+
+-- what is lent from the place a on, to the end
+pub length-lent : (a : ℕ) (xs : List ℕ) → length (take (length xs - a) (drop a xs)) ≡ length xs - a
+length-lent a xs = simp (length-take, length-drop) (omega arith)

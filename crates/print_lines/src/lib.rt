@@ -1,7 +1,7 @@
 // A printed line: a word, then each number after a space, in decimal, and a line feed. It is written at the front of a
 // lent rest, and the writer tells how many bytes it took.
 ghost use mathlib.Core.Path.{_≡_};
-ghost use Prim.Native.Nat.{_≤_};
+ghost use Prim.Native.Nat.{_+_, _≤_};
 ghost use lib.ListN.{length};
 ghost use Rattle.laws.specs.Lists.{flat, over};
 ghost use Rattle.paper.specs.Text.{decimal, printLine};
