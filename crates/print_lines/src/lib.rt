@@ -1,7 +1,7 @@
 // A printed line: a word, then each number after a space, in decimal, and a line feed. It is written at the front of a
 // lent rest, and the writer tells how many bytes it took.
 ghost use mathlib.Core.Path.{_≡_};
-ghost use Prim.Native.Nat.{_+_, _≤_};
+ghost use Prim.Native.Nat.{_≤_};
 ghost use lib.ListN.{length};
 ghost use Rattle.laws.specs.Lists.{flat, over};
 ghost use Rattle.paper.specs.Text.{decimal, printLine};
@@ -24,7 +24,7 @@ fn digit_count(n: u64) -> usize
 // A space and a number: the digits are stored from the last to the first.
 fn put_number(out: &mut [u8], n: u64) -> usize
     requires { ⌜ length (spaced n) ≤ length (now out) ⌝ }
-    ensures { λ r. ⌜ (r ≡ 1 + length (decimal n)) × (now (out .exit) ≡ over (32 ∷ decimal n) (now (out .entry))) ⌝ }
+    ensures { λ r. ⌜ (r ≡ length (spaced n)) × (now (out .exit) ≡ over (spaced n) (now (out .entry))) ⌝ }
 {
     let count = digit_count(n);
     let mut k = count;
@@ -41,10 +41,8 @@ fn put_number(out: &mut [u8], n: u64) -> usize
 // Each number after a space.
 fn put_numbers(out: &mut [u8], numbers: &[u64]) -> usize
     requires { ⌜ length (flat spaced (now numbers)) ≤ length (now out) ⌝ }
-    ensures {
-        λ r. ⌜ (r ≡ length (flat spaced (now (numbers .entry))))
-            × (now (out .exit) ≡ over (flat spaced (now (numbers .entry))) (now (out .entry))) ⌝
-    }
+    ensures { λ r. ⌜ (r ≡ length (flat spaced (now (numbers .entry))))
+        × (now (out .exit) ≡ over (flat spaced (now (numbers .entry))) (now (out .entry))) ⌝ }
 {
     let mut at = 0;
     let mut i = 0;
@@ -58,10 +56,8 @@ fn put_numbers(out: &mut [u8], numbers: &[u64]) -> usize
 // A line with its word and its numbers.
 pub fn put_line(out: &mut [u8], word: &[u8], numbers: &[u64]) -> usize
     requires { ⌜ length (printLine (now word) (now numbers)) ≤ length (now out) ⌝ }
-    ensures {
-        λ r. ⌜ (r ≡ length (printLine (now (word .entry)) (now (numbers .entry))))
-            × (now (out .exit) ≡ over (printLine (now (word .entry)) (now (numbers .entry))) (now (out .entry))) ⌝
-    }
+    ensures { λ r. ⌜ (r ≡ length (printLine (now (word .entry)) (now (numbers .entry))))
+        × (now (out .exit) ≡ over (printLine (now (word .entry)) (now (numbers .entry))) (now (out .entry))) ⌝ }
 {
     put_bytes(out, word);
     let at = word.len();

@@ -77,8 +77,8 @@ loop-again c =
       search needs,
       search needs,
       moved (ap (λ (n : ℕ). c .before .before .before .before .before .before .loop .at + n) (duty-length (dutyAt ds i)))
-      (more _ _ (flat dutyBytes (drop (i + 1) ds)) (c .before .before .before .before .before .before .loop .out) (dutyBytes (dutyAt ds i)) _ (c .before .before .before .before .before .before .loop .at) (next here (c .before .before .before .before .before .before .loop .inv .3))
-      (c .before .before .put-duty .ensures ∙ ap (λ (x : Duty). over (dutyBytes x) (take (length (c .before .before .before .before .before .before .loop .out) - c .before .before .before .before .before .before .loop .at) (drop (c .before .before .before .before .before .before .loop .at) (c .before .before .before .before .before .before .loop .out)))) (c .before .before .before .duty-at .ensures))),
+          (more _ _ (flat dutyBytes (drop (i + 1) ds)) (c .before .before .before .before .before .before .loop .out) (dutyBytes (dutyAt ds i)) _ (c .before .before .before .before .before .before .loop .at) (next here (c .before .before .before .before .before .before .loop .inv .3))
+          (c .before .before .put-duty .ensures ∙ ap (λ (x : Duty). over (dutyBytes x) (take (length (c .before .before .before .before .before .before .loop .out) - c .before .before .before .before .before .before .loop .at) (drop (c .before .before .before .before .before .before .loop .at) (c .before .before .before .before .before .before .loop .out)))) (c .before .before .before .duty-at .ensures))),
     )
 
 -- src/lib.rt:166:1
