@@ -20,27 +20,33 @@ pub record Listing {A : Type 0} (f : A → List ℕ) (items : List A) (l xs : Li
 pub listing-start : {A : Type 0} (f : A → List ℕ) (items : List A) (l : List ℕ) → Listing f items l l 0 0
 listing-start f items l = record { within = omega arith; long = refl; wrote = start (flat f items) l }
 
+-- the place is not past the end of all
+pub listing-at : {A : Type 0} {f : A → List ℕ} {items : List A} {l xs : List ℕ} {at i : ℕ} → Listing f items l xs at i → at ≤ length (flat f items)
+listing-at s = omega (arith, room (s .wrote))
+
 -- what the next entry gives has room where all of it has
-pub listing-room : {A : Type 0} {f : A → List ℕ} {items : List A} {l xs : List ℕ} {at i : ℕ} (d : A) → Listing f items l xs at i → i < length items
-    → at + length (f (getD items i d)) ≤ length (flat f items)
-listing-room {A} {f} {items} {l} {xs} {at} {i} d s h =
+pub listing-room : {A : Type 0} {f : A → List ℕ} {items : List A} {l xs : List ℕ} {at i : ℕ} (d : A) (p : List ℕ) → p ≡ f (getD items i d)
+    → Listing f items l xs at i → i < length items → at + length p ≤ length (flat f items)
+listing-room {A} {f} {items} {l} {xs} {at} {i} d p e s h =
     omega (
       arith,
       room (s .wrote),
+      ap length e,
       ap length (flat-left f d items i h),
       length-append (f (getD items i d)) (flat f (drop (i + 1) items)),
     )
 
--- after a call that was lent the buffer from `at` on, wrote the next entry there and answered its length n
-pub listing-more : {A : Type 0} {f : A → List ℕ} {items : List A} {l xs : List ℕ} {at i : ℕ} (d : A) (ys : List ℕ) (n : ℕ) → Listing f items l xs at i → i < length items
-    → n ≡ length (f (getD items i d)) → ys ≡ over (f (getD items i d)) (take (length xs - at) (drop at xs))
+-- after a call that was lent the buffer from `at` on, wrote what the next entry gives there and answered its length n
+pub listing-more : {A : Type 0} {f : A → List ℕ} {items : List A} {l xs : List ℕ} {at i : ℕ} (d : A) (p ys : List ℕ) (n : ℕ) → p ≡ f (getD items i d)
+    → Listing f items l xs at i → i < length items → n ≡ length p → ys ≡ over p (take (length xs - at) (drop at xs))
     → length (take at xs ++ (ys ++ drop (length xs - at) (drop at xs))) ≡ length l
     → Listing f items l (take at xs ++ (ys ++ drop (length xs - at) (drop at xs))) (at + n) (i + 1)
-listing-more {A} {f} {items} {l} {xs} {at} {i} d ys n s h e p g =
+listing-more {A} {f} {items} {l} {xs} {at} {i} d p ys n q s h e w g =
+    let here : flat f (drop i items) ≡ p ++ flat f (drop (i + 1) items) = rw q (flat-left f d items i h) in
     record {
       within = omega arith;
       long = g;
-      wrote = moved (ap (λ k. at + k) (sym e)) (more (flat f items) l (flat f (drop (i + 1) items)) xs (f (getD items i d)) ys at (next (flat-left f d items i h) (s .wrote)) p);
+      wrote = moved (ap (λ k. at + k) (sym e)) (more (flat f items) l (flat f (drop (i + 1) items)) xs p ys at (next here (s .wrote)) w);
     }
 
 -- after the last entry all is written
