@@ -100,3 +100,16 @@ moved {W} {l} {rest} {xs} {a} {b} e r = record { w = r .w; len = r .len ∙ e; i
 -- what is lent from the place a on, to the end
 pub length-lent : (a : ℕ) (xs : List ℕ) → length (take (length xs - a) (drop a xs)) ≡ length xs - a
 length-lent a xs = simp (length-take, length-drop) (omega arith)
+
+-- ---- a text that grows: all of W is written, and a part is written behind it
+
+pub written : (W l xs : List ℕ) (n : ℕ) → xs ≡ over W l → n ≡ length W → Wrote W l [] xs n
+written W l xs n e p = record { w = W; len = sym p; is = e; left = append-nil W }
+
+-- after a call that was lent the buffer from a on, wrote p there and answered its length n
+pub grown : {W l xs : List ℕ} {a : ℕ} (p ys : List ℕ) (n : ℕ) → Wrote W l [] xs a → n ≡ length p → ys ≡ over p (take (length xs - a) (drop a xs))
+    → Wrote (W ++ p) l [] (take a xs ++ (ys ++ drop (length xs - a) (drop a xs))) (a + n)
+grown {W} {l} {xs} {a} p ys n r e q =
+    let all : r .w ≡ W = sym (append-nil (r .w)) ∙ r .left in
+    let before : Wrote (W ++ p) l (p ++ []) xs a = record { w = r .w; len = r .len; is = r .is; left = rw (append-nil p, all) } in
+    moved (ap (λ k. a + k) (sym e)) (more (W ++ p) l [] xs p ys a before q)

@@ -1,18 +1,25 @@
 // A plan as text: a line for the plan, one for each duty, run and chain, and one for the loads.
 ghost use mathlib.Core.Path.{_≡_};
 ghost use mathlib.Core.List.{[], _∷_};
-ghost use Prim.Native.Nat.{_≤_};
+ghost use Prim.Native.Nat.{_+_, _-_, _*_, _≤_};
 ghost use lib.ListN.{length};
-ghost use Rattle.laws.specs.Lists.{over};
-ghost use Rattle.paper.specs.Text.{printLine, dutyWord, runLine};
+ghost use Rattle.laws.specs.Lists.{flat, over};
+ghost use Rattle.paper.specs.Text.{printLine, planWord, dutyWord, chainWord, loadsWord, runLine, chainLine, planText};
+ghost use Rattle.paper.specs.Rotation.{firstOf, chainsBelow};
+ghost use Rattle.paper.specs.Statements.{Meets};
+ghost use Rattle.rotation.specs.Edges.{linkOf};
 ghost use Rattle.form.specs.Formed.{Formed, tableOf};
 ghost use Rattle.plan_text.specs.Parts.{dutyLines, runLines};
 use form::duty_of;
 use form::run_of;
 use paper::Duty;
 use paper::Reading;
+use paper::Row;
 use paper::Run;
 use print_lines::put_line;
+use rotation::carried;
+use rotation::chain_last;
+use rotation::edges_of;
 
 // A duty: number, service, period.
 fn put_duty(out: &mut [u8], i: u64, x: Duty) -> usize
@@ -70,4 +77,71 @@ fn put_runs(out: &mut [u8], b: &[u8], rd: Reading) -> usize
         k += 1;
     }
     at
+}
+
+// A chain: first row, length.
+fn put_chain(out: &mut [u8], first: u32, rows: u32) -> usize
+    requires { ⌜ length (printLine chainWord (first ∷ rows ∷ [])) ≤ length (now out) ⌝ }
+    ensures { λ r. ⌜ (r ≡ length (printLine chainWord (first ∷ rows ∷ [])))
+        × (now (out .exit) ≡ over (printLine chainWord (first ∷ rows ∷ [])) (now (out .entry))) ⌝ }
+{
+    let numbers = [first as u64, rows as u64];
+    put_line(out, b"chain", &numbers)
+}
+
+// The chains, by first row: past the last row of one the next begins.
+fn put_chains(out: &mut [u8], starts: &[u32; 33], ends: &[u32; 33], engines: u32) -> usize
+    requires { ⌜ (engines ≤ 32) × (12 * engines ≤ length (now out)) ⌝ }
+    requires { ⌜ firstOf (linkOf (now starts) (now ends)) engines ≡ engines ⌝ }
+    ensures { λ r. ⌜ (r ≡ length (flat chainLine (chainsBelow (linkOf (now (starts .entry)) (now (ends .entry))) engines engines)))
+        × (now (out .exit) ≡ over (flat chainLine (chainsBelow (linkOf (now (starts .entry)) (now (ends .entry))) engines engines)) (now (out .entry)))
+        × (r ≤ 12 * engines) ⌝ }
+{
+    let mut at = 0;
+    let mut first = 0;
+    while first < engines {
+        let next = chain_last(starts, ends, Row(first)).0 + 1;
+        at += put_chain(&mut out[at..], first, next - first);
+        first = next;
+    }
+    at
+}
+
+// The loads: in block 0 as many as runs, in each later block fewer by what is carried over a boundary.
+fn put_loads(out: &mut [u8], runs: u32, carried: u32) -> usize
+    requires { ⌜ (carried ≤ runs) × (length (printLine loadsWord (runs ∷ (runs - carried) ∷ [])) ≤ length (now out)) ⌝ }
+    ensures { λ r. ⌜ (r ≡ length (printLine loadsWord (runs ∷ (runs - carried) ∷ [])))
+        × (now (out .exit) ≡ over (printLine loadsWord (runs ∷ (runs - carried) ∷ [])) (now (out .entry))) ⌝ }
+{
+    let numbers = [runs as u64, (runs - carried) as u64];
+    put_line(out, b"loads", &numbers)
+}
+
+// The plan: block length, engines, duties.
+fn put_head(out: &mut [u8], rd: Reading) -> usize
+    requires { ⌜ length (printLine planWord (rd .«block_length» ∷ rd .engines ∷ rd .duties ∷ [])) ≤ length (now out) ⌝ }
+    ensures { λ r. ⌜ (r ≡ length (printLine planWord (rd .«block_length» ∷ rd .engines ∷ rd .duties ∷ [])))
+        × (now (out .exit) ≡ over (printLine planWord (rd .«block_length» ∷ rd .engines ∷ rd .duties ∷ [])) (now (out .entry))) ⌝ }
+{
+    let numbers = [rd.block_length as u64, rd.engines as u64, rd.duties as u64];
+    put_line(out, b"plan", &numbers)
+}
+
+// The text of a plan whose bytes are in good form and meet the rules.
+fn put_text(out: &mut [u8], b: &[u8], rd: Reading) -> usize
+    requires { ⌜ Formed (now b) rd ⌝ }
+    requires { ⌜ Meets (tableOf (now b) rd) ⌝ }
+    requires { ⌜ 8192 ≤ length (now out) ⌝ }
+    ensures { λ r. ⌜ (r ≡ length (planText (tableOf (now (b .entry)) rd)))
+        × (now (out .exit) ≡ over (planText (tableOf (now (b .entry)) rd)) (now (out .entry)))
+        × (r ≤ 8192) ⌝ }
+{
+    let mut at = put_head(out, rd);
+    at += put_duties(&mut out[at..], b, rd);
+    at += put_runs(&mut out[at..], b, rd);
+    let e = edges_of(b, rd);
+    let starts = e.starts;
+    let ends = e.ends;
+    at += put_chains(&mut out[at..], &starts, &ends, rd.engines);
+    at + put_loads(&mut out[at..], rd.runs, carried(&starts, &ends, rd.engines))
 }
