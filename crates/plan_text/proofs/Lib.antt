@@ -1,1 +1,2 @@
 pub mod ChainLines
+pub mod PlanText
