@@ -25,7 +25,11 @@ duty-good-requires c κs = search needs
 
 returns : tie.Need-returns Inv-loop μ-loop
 unfolding badDuty
-returns c = seek-hit (c .before .before .before .before .loop .inv) (search needs) (rw (← c .before .before .duty-place .ensures, ← c .before .duty-good .ensures) (c .if1 .taken))
+returns c =
+    seek-hit (c .before .before .before .before .loop .inv) (search needs) (rw (
+      ← c .before .before .duty-place .ensures,
+      ← c .before .duty-good .ensures,
+    ) (c .if1 .taken))
 
 add-d : tie.Need-add-d Inv-loop μ-loop
 add-d c = search needs
@@ -34,7 +38,11 @@ loop-less : tie.Need-loop-less Inv-loop μ-loop
 loop-less c = search needs
 
 loop-again : tie.Need-loop-again Inv-loop μ-loop
-loop-again c = seek-more (c .before .before .before .before .loop .inv) (search needs) (rw (← c .before .before .duty-place .ensures, ← c .before .duty-good .ensures) (c .if1 .left))
+loop-again c =
+    seek-more (c .before .before .before .before .loop .inv) (search needs) (rw (
+      ← c .before .before .duty-place .ensures,
+      ← c .before .duty-good .ensures,
+    ) (c .if1 .left))
 
 returns-2 : tie.Need-returns-2 Inv-loop μ-loop
 unfolding badDuty

@@ -33,7 +33,13 @@ is-within-requires-2 c κs = search needs
 
 returns-2 : tie.Need-returns-2
 unfolding dutyGood
-returns-2 c = rw (c .is-within2 .ensures, c .before .is-within .ensures, c .before .before .read-duty .ensures, sym (c .before .before .before .before .record-stands .ensures) ∙ not-false _ (c .before .before .before .if1 .left))
+returns-2 c =
+    rw (
+      c .is-within2 .ensures,
+      c .before .is-within .ensures,
+      c .before .before .read-duty .ensures,
+      sym (c .before .before .before .before .record-stands .ensures) ∙ not-false _ (c .before .before .before .if1 .left),
+    )
 
 pub duty-good-spec : {M : Type 1} → statement M
 duty-good-spec =

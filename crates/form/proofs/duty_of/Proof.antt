@@ -14,8 +14,13 @@ read-duty-requires c κs = search needs
 
 returns : tie.Need-returns
 returns c =
-    let h = c .before .before .before .pre .1 in
-    (rw (c .read-duty .ensures, c .before .duty-place .ensures) (sym (table-duty _ (c .before .before .before .args .rd) _ h)), rw (c .read-duty .ensures, c .before .duty-place .ensures) (c .before .before .before .pre .0 .duty-ranged _ h))
+    let h = c .before .before .before .pre .1 in (
+      rw (
+        c .read-duty .ensures,
+        c .before .duty-place .ensures,
+      ) (sym (table-duty _ (c .before .before .before .args .rd) _ h)),
+      rw (c .read-duty .ensures, c .before .duty-place .ensures) (c .before .before .before .pre .0 .duty-ranged _ h),
+    )
 
 pub duty-of-spec : {M : Type 1} → statement M
 duty-of-spec = tie.close (tie.spec duty-place-requires read-duty-requires returns)

@@ -40,14 +40,37 @@ duty-place-requires c κs = omega (arith, head (c .before .before .before .befor
 
 returns-2 : tie.Need-returns-2
 unfolding parse afterHead
-returns-2 c = rw (← c .before .before .before .before .before .before .before .head-good .ensures, c .before .before .before .before .before .before .if1 .left, ← c .before .before .before .read-one2 .ensures .0, ← c .before .before .bad-duty .ensures, lt-ltb _ _ (c .before .if2 .taken), c .duty-place .ensures)
+returns-2 c =
+    rw (
+      ← c .before .before .before .before .before .before .before .head-good .ensures,
+      c .before .before .before .before .before .before .if1 .left,
+      ← c .before .before .before .read-one2 .ensures .0,
+      ← c .before .before .bad-duty .ensures,
+      lt-ltb _ _ (c .before .if2 .taken),
+      c .duty-place .ensures,
+    )
 
 form-of-runs-requires : tie.Need-form-of-runs-requires
-form-of-runs-requires c κs = (c .before .before .before .before .read-four .ensures, c .before .before .before .read-one .ensures .0, c .before .before .read-one2 .ensures .0, omega (arith, head (c .before .before .before .before .before)))
+form-of-runs-requires c κs = (
+  c .before .before .before .before .read-four .ensures,
+  c .before .before .before .read-one .ensures .0,
+  c .before .before .read-one2 .ensures .0,
+  omega (
+    arith,
+    head (c .before .before .before .before .before),
+  ),
+)
 
 returns-3 : tie.Need-returns-3
 unfolding parse afterHead
-returns-3 c = rw (← c .before .before .before .before .before .before .before .head-good .ensures, c .before .before .before .before .before .before .if1 .left, ← c .before .before .before .read-one2 .ensures .0, ← c .before .before .bad-duty .ensures, le-ltb _ _ (c .before .if2 .left)) (c .form-of-runs .ensures)
+returns-3 c =
+    rw (
+      ← c .before .before .before .before .before .before .before .head-good .ensures,
+      c .before .before .before .before .before .before .if1 .left,
+      ← c .before .before .before .read-one2 .ensures .0,
+      ← c .before .before .bad-duty .ensures,
+      le-ltb _ _ (c .before .if2 .left),
+    ) (c .form-of-runs .ensures)
 
 pub form-of-spec : {M : Type 1} → statement M
 form-of-spec =

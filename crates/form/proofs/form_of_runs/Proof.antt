@@ -20,7 +20,13 @@ end-good-requires c κs = search needs
 
 returns : tie.Need-returns
 unfolding afterRuns
-returns c = rw (← c .before .before .before .good-runs .ensures .0, ← c .before .before .run-place .ensures, ← c .before .end-good .ensures, c .if1 .taken)
+returns c =
+    rw (
+      ← c .before .before .before .good-runs .ensures .0,
+      ← c .before .before .run-place .ensures,
+      ← c .before .end-good .ensures,
+      c .if1 .taken,
+    )
 
 add-if2 : tie.Need-add-if2
 add-if2 c = search needs
@@ -30,14 +36,31 @@ add-t11 c = search needs
 
 returns-2 : tie.Need-returns-2
 unfolding afterRuns
-returns-2 c = rw (← c .before .before .before .before .good-runs .ensures .0, ← c .before .before .before .run-place .ensures, ← c .before .before .end-good .ensures, c .before .if1 .left, lt-ltb (c .before .before .before .run-place .result + 3) (length (c .before .before .before .before .before .before .args .b .now)) (search needs))
+returns-2 c =
+    rw (
+      ← c .before .before .before .before .good-runs .ensures .0,
+      ← c .before .before .before .run-place .ensures,
+      ← c .before .before .end-good .ensures,
+      c .before .if1 .left,
+      lt-ltb (c .before .before .before .run-place .result + 3) (length (c .before .before .before .before .before .before .args .b .now)) (search needs),
+    )
 
 cast-t12 : tie.Need-cast-t12
 cast-t12 c = search needs
 
 returns-3 : tie.Need-returns-3
 unfolding afterRuns
-returns-3 c = rw (← c .before .before .before .before .good-runs .ensures .0, ← c .before .before .before .run-place .ensures, ← c .before .before .end-good .ensures, c .before .if1 .left, le-ltb (c .before .before .before .run-place .result + 3) (length (c .before .before .before .before .before .before .args .b .now)) (search needs), reading-in, c .before .before .before .before .before .before .pre .0, c .before .before .before .before .before .before .pre .1)
+returns-3 c =
+    rw (
+      ← c .before .before .before .before .good-runs .ensures .0,
+      ← c .before .before .before .run-place .ensures,
+      ← c .before .before .end-good .ensures,
+      c .before .if1 .left,
+      le-ltb (c .before .before .before .run-place .result + 3) (length (c .before .before .before .before .before .before .args .b .now)) (search needs),
+      reading-in,
+      c .before .before .before .before .before .before .pre .0,
+      c .before .before .before .before .before .before .pre .1,
+    )
 
 pub form-of-runs-spec : {M : Type 1} → statement M
 form-of-runs-spec =

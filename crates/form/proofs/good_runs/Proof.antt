@@ -25,7 +25,13 @@ run-good-requires c κs = search needs
 
 returns : tie.Need-returns Inv-loop μ-loop
 unfolding goodRuns
-returns c = (seek-hit (c .before .before .before .before .loop .inv) (search needs) (rw (← c .before .before .run-place .ensures, ← c .before .run-good .ensures) (c .if1 .taken)), search needs)
+returns c = (
+  seek-hit (c .before .before .before .before .loop .inv) (search needs) (rw (
+    ← c .before .before .run-place .ensures,
+    ← c .before .run-good .ensures,
+  ) (c .if1 .taken)),
+  search needs,
+)
 
 add-k : tie.Need-add-k Inv-loop μ-loop
 add-k c = search needs
@@ -34,7 +40,11 @@ loop-less : tie.Need-loop-less Inv-loop μ-loop
 loop-less c = search needs
 
 loop-again : tie.Need-loop-again Inv-loop μ-loop
-loop-again c = seek-more (c .before .before .before .before .loop .inv) (search needs) (rw (← c .before .before .run-place .ensures, ← c .before .run-good .ensures) (c .if1 .left))
+loop-again c =
+    seek-more (c .before .before .before .before .loop .inv) (search needs) (rw (
+      ← c .before .before .run-place .ensures,
+      ← c .before .run-good .ensures,
+    ) (c .if1 .left))
 
 returns-2 : tie.Need-returns-2 Inv-loop μ-loop
 unfolding goodRuns

@@ -42,7 +42,16 @@ is-within-requires-3 c κs = search needs
 
 returns-2 : tie.Need-returns-2
 unfolding headGood
-returns-2 c = rw (c .is-within3 .ensures, c .before .is-within2 .ensures, c .before .before .is-within .ensures, c .before .before .before .before .before .read-four .ensures, c .before .before .before .before .read-one .ensures .0, c .before .before .before .read-one2 .ensures .0, sym (c .before .before .before .before .before .before .before .record-stands .ensures) ∙ not-false _ (c .before .before .before .before .before .before .if1 .left))
+returns-2 c =
+    rw (
+      c .is-within3 .ensures,
+      c .before .is-within2 .ensures,
+      c .before .before .is-within .ensures,
+      c .before .before .before .before .before .read-four .ensures,
+      c .before .before .before .before .read-one .ensures .0,
+      c .before .before .before .read-one2 .ensures .0,
+      sym (c .before .before .before .before .before .before .before .record-stands .ensures) ∙ not-false _ (c .before .before .before .before .before .before .if1 .left),
+    )
 
 pub head-good-spec : {M : Type 1} → statement M
 head-good-spec =

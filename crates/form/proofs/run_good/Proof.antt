@@ -36,7 +36,14 @@ add-stop c = search needs
 
 returns-2 : tie.Need-returns-2
 unfolding runGood
-returns-2 c = rw (sym (c .before .before .before .before .before .before .before .before .before .pre .1), sym (c .before .before .before .before .before .before .before .before .before .pre .2), sym (c .before .before .before .before .before .before .before .before .before .pre .3), sym (c .before .before .before .before .before .read-run .ensures), sym (c .before .before .before .before .before .before .before .record-stands .ensures) ∙ not-false _ (c .before .before .before .before .before .before .if1 .left))
+returns-2 c =
+    rw (
+      sym (c .before .before .before .before .before .before .before .before .before .pre .1),
+      sym (c .before .before .before .before .before .before .before .before .before .pre .2),
+      sym (c .before .before .before .before .before .before .before .before .before .pre .3),
+      sym (c .before .before .before .before .before .read-run .ensures),
+      sym (c .before .before .before .before .before .before .before .record-stands .ensures) ∙ not-false _ (c .before .before .before .before .before .before .if1 .left),
+    )
 
 pub run-good-spec : {M : Type 1} → statement M
 run-good-spec =

@@ -17,8 +17,13 @@ read-run-requires c κs = search needs
 
 returns : tie.Need-returns
 returns c =
-    let h = c .before .before .before .before .pre .1 in
-    (rw (c .read-run .ensures, c .before .run-place .ensures) (sym (table-run _ (c .before .before .before .before .args .rd) _ h)), rw (c .read-run .ensures, c .before .run-place .ensures) (c .before .before .before .before .pre .0 .run-ranged _ h))
+    let h = c .before .before .before .before .pre .1 in (
+      rw (
+        c .read-run .ensures,
+        c .before .run-place .ensures,
+      ) (sym (table-run _ (c .before .before .before .before .args .rd) _ h)),
+      rw (c .read-run .ensures, c .before .run-place .ensures) (c .before .before .before .before .pre .0 .run-ranged _ h),
+    )
 
 pub run-of-spec : {M : Type 1} → statement M
 run-of-spec = tie.close (tie.spec cast-run-place run-place-requires read-run-requires returns)
