@@ -17,6 +17,7 @@ use Rattle.paper.specs.Text.{printLine, chainWord, chainLine}
 use Rattle.paper.proofs.Rotation.{first-zero, first-cut}
 use Rattle.paper.proofs.Chains.{InChain, in-chain, chain-below, chains-more}
 use Rattle.rotation.specs.Edges.{IsLast}
+use Rattle.print_lines.specs.Puts.{Puts}
 use Rattle.print_lines.proofs.Line.{line-most}
 
 -- the lines of the chains that begin below row k, of m rows
@@ -77,8 +78,8 @@ module _ (c : ℕ → Bool) (m : ℕ) (few : m ≤ 32) (closed : firstOf c m ≡
 
 -- at the end all are written
 pub chained-end : (c : ℕ → Bool) (m : ℕ) {l xs : List ℕ} {at k : ℕ} → Chained c m l xs at k → m ≤ k
-    → (at ≡ length (linesBelow c m m)) × (xs ≡ over (linesBelow c m m) l) × (at ≤ 12 * m)
+    → Puts (linesBelow c m m) l xs at × (at ≤ 12 * m)
 chained-end c m {l} {xs} {at} {k} s h =
     let z : k ≡ m = omega (arith, s .within) in
     let all : Wrote (linesBelow c m m) l [] xs at = subst (λ j. Wrote (linesBelow c m j) l [] xs at) z (s .wrote) in
-    (sym (add-zero at) ∙ room all, done (linesBelow c m m) l xs at all, omega (arith, s .most))
+    ((sym (add-zero at) ∙ room all, done (linesBelow c m m) l xs at all), omega (arith, s .most))

@@ -13,7 +13,7 @@ use Rattle.laws.proofs.Lists.{length-tab, getD-tab}
 use Rattle.laws.proofs.Listing.{flat-most}
 use Rattle.paper.specs.declared.Reading.{Reading}
 use Rattle.paper.specs.Words.{Table, run, dutyAt, runAt}
-use Rattle.paper.specs.Bytes.{small}
+use Rattle.paper.specs.Bytes.{small, mostTicks}
 use Rattle.paper.specs.Rotation.{link, firstOf, chainsBelow}
 use Rattle.paper.specs.Schedule.{loads}
 use Rattle.paper.specs.Statements.{Meets, DutyRanged, RunRanged}
@@ -31,9 +31,8 @@ use Rattle.plan_text.specs.Parts.{dutyLines, runLines, chainLines}
 
 -- ---- how long the parts are
 
-pub head-most : (b : List ℕ) (rd : Reading) → Formed b rd → length (printLine planWord (rd .«block_length» ∷ rd .engines ∷ rd .duties ∷ [])) ≤ 29
-head-most b rd F =
-    omega (arith, line-most 6 planWord (rd .«block_length» ∷ rd .engines ∷ rd .duties ∷ []) (omega (arith, F .ticks-most), (omega (arith, F .engines-most), (omega (arith, F .duties-most), tt))))
+pub head-most : (t m n : ℕ) → t ≤ mostTicks → m ≤ 32 → n ≤ 64 → length (printLine planWord (t ∷ m ∷ n ∷ [])) ≤ 29
+head-most t m n p q r = omega (arith, line-most 6 planWord (t ∷ m ∷ n ∷ []) (omega arith, (omega arith, (omega arith, tt))))
 
 pub duties-most : (b : List ℕ) (rd : Reading) → Formed b rd → length (dutyLines (tableOf b rd)) ≤ 1856
 duties-most b rd F =

@@ -3,12 +3,14 @@ ghost use mathlib.Core.Path.{_≡_};
 ghost use mathlib.Core.List.{[], _∷_};
 ghost use Prim.Native.Nat.{_+_, _-_, _*_, _≤_};
 ghost use lib.ListN.{length};
-ghost use Rattle.laws.specs.Lists.{flat, over};
+ghost use Rattle.laws.specs.Lists.{flat};
+ghost use Rattle.paper.specs.Bytes.{mostTicks};
 ghost use Rattle.paper.specs.Text.{printLine, planWord, dutyWord, chainWord, loadsWord, runLine, chainLine, planText};
 ghost use Rattle.paper.specs.Rotation.{firstOf, chainsBelow};
 ghost use Rattle.paper.specs.Statements.{Meets};
 ghost use Rattle.rotation.specs.Edges.{linkOf};
 ghost use Rattle.form.specs.Formed.{Formed, tableOf};
+ghost use Rattle.print_lines.specs.Puts.{Puts};
 ghost use Rattle.plan_text.specs.Parts.{dutyLines, runLines};
 use form::duty_of;
 use form::run_of;
@@ -24,8 +26,7 @@ use rotation::edges_of;
 // A duty: number, service, period.
 fn put_duty(out: &mut [u8], i: u64, x: Duty) -> usize
     requires { ⌜ length (printLine dutyWord (i ∷ x .service ∷ x .period ∷ [])) ≤ length (now out) ⌝ }
-    ensures { λ r. ⌜ (r ≡ length (printLine dutyWord (i ∷ x .service ∷ x .period ∷ [])))
-        × (now (out .exit) ≡ over (printLine dutyWord (i ∷ x .service ∷ x .period ∷ [])) (now (out .entry))) ⌝ }
+    ensures { λ r. ⌜ Puts (printLine dutyWord (i ∷ x .service ∷ x .period ∷ [])) (now (out .entry)) (now (out .exit)) r ⌝ }
 {
     let numbers = [i, x.service as u64, x.period as u64];
     put_line(out, b"duty", &numbers)
@@ -34,9 +35,9 @@ fn put_duty(out: &mut [u8], i: u64, x: Duty) -> usize
 // The duties, one line each.
 fn put_duties(out: &mut [u8], b: &[u8], rd: Reading) -> usize
     requires { ⌜ Formed (now b) rd ⌝ }
-    requires { ⌜ length (dutyLines (tableOf (now b) rd)) ≤ length (now out) ⌝ }
-    ensures { λ r. ⌜ (r ≡ length (dutyLines (tableOf (now (b .entry)) rd)))
-        × (now (out .exit) ≡ over (dutyLines (tableOf (now (b .entry)) rd)) (now (out .entry))) ⌝ }
+    requires { ⌜ 1856 ≤ length (now out) ⌝ }
+    ensures { λ r. ⌜ Puts (dutyLines (tableOf (now (b .entry)) rd)) (now (out .entry)) (now (out .exit)) r ⌝ }
+    ensures { λ r. ⌜ r ≤ 1856 ⌝ }
 {
     let n = rd.duties as usize;
     let mut at = 0;
@@ -51,7 +52,7 @@ fn put_duties(out: &mut [u8], b: &[u8], rd: Reading) -> usize
 // A run: row, duty, first unit, length.
 fn put_run(out: &mut [u8], x: Run) -> usize
     requires { ⌜ length (runLine x) ≤ length (now out) ⌝ }
-    ensures { λ r. ⌜ (r ≡ length (runLine x)) × (now (out .exit) ≡ over (runLine x) (now (out .entry))) ⌝ }
+    ensures { λ r. ⌜ Puts (runLine x) (now (out .entry)) (now (out .exit)) r ⌝ }
 {
     let numbers = [
         x.row.0 as u64,
@@ -65,9 +66,9 @@ fn put_run(out: &mut [u8], x: Run) -> usize
 // The runs, in table order.
 fn put_runs(out: &mut [u8], b: &[u8], rd: Reading) -> usize
     requires { ⌜ Formed (now b) rd ⌝ }
-    requires { ⌜ length (runLines (tableOf (now b) rd)) ≤ length (now out) ⌝ }
-    ensures { λ r. ⌜ (r ≡ length (runLines (tableOf (now (b .entry)) rd)))
-        × (now (out .exit) ≡ over (runLines (tableOf (now (b .entry)) rd)) (now (out .entry))) ⌝ }
+    requires { ⌜ 4608 ≤ length (now out) ⌝ }
+    ensures { λ r. ⌜ Puts (runLines (tableOf (now (b .entry)) rd)) (now (out .entry)) (now (out .exit)) r ⌝ }
+    ensures { λ r. ⌜ r ≤ 4608 ⌝ }
 {
     let n = rd.runs as usize;
     let mut at = 0;
@@ -82,8 +83,7 @@ fn put_runs(out: &mut [u8], b: &[u8], rd: Reading) -> usize
 // A chain: first row, length.
 fn put_chain(out: &mut [u8], first: u32, rows: u32) -> usize
     requires { ⌜ length (printLine chainWord (first ∷ rows ∷ [])) ≤ length (now out) ⌝ }
-    ensures { λ r. ⌜ (r ≡ length (printLine chainWord (first ∷ rows ∷ [])))
-        × (now (out .exit) ≡ over (printLine chainWord (first ∷ rows ∷ [])) (now (out .entry))) ⌝ }
+    ensures { λ r. ⌜ Puts (printLine chainWord (first ∷ rows ∷ [])) (now (out .entry)) (now (out .exit)) r ⌝ }
 {
     let numbers = [first as u64, rows as u64];
     put_line(out, b"chain", &numbers)
@@ -93,9 +93,8 @@ fn put_chain(out: &mut [u8], first: u32, rows: u32) -> usize
 fn put_chains(out: &mut [u8], starts: &[u32; 33], ends: &[u32; 33], engines: u32) -> usize
     requires { ⌜ (engines ≤ 32) × (12 * engines ≤ length (now out)) ⌝ }
     requires { ⌜ firstOf (linkOf (now starts) (now ends)) engines ≡ engines ⌝ }
-    ensures { λ r. ⌜ (r ≡ length (flat chainLine (chainsBelow (linkOf (now (starts .entry)) (now (ends .entry))) engines engines)))
-        × (now (out .exit) ≡ over (flat chainLine (chainsBelow (linkOf (now (starts .entry)) (now (ends .entry))) engines engines)) (now (out .entry)))
-        × (r ≤ 12 * engines) ⌝ }
+    ensures { λ r. ⌜ Puts (flat chainLine (chainsBelow (linkOf (now (starts .entry)) (now (ends .entry))) engines engines)) (now (out .entry)) (now (out .exit)) r ⌝ }
+    ensures { λ r. ⌜ r ≤ 12 * engines ⌝ }
 {
     let mut at = 0;
     let mut first = 0;
@@ -109,9 +108,9 @@ fn put_chains(out: &mut [u8], starts: &[u32; 33], ends: &[u32; 33], engines: u32
 
 // The loads: in block 0 as many as runs, in each later block fewer by what is carried over a boundary.
 fn put_loads(out: &mut [u8], runs: u32, carried: u32) -> usize
-    requires { ⌜ (carried ≤ runs) × (length (printLine loadsWord (runs ∷ (runs - carried) ∷ [])) ≤ length (now out)) ⌝ }
-    ensures { λ r. ⌜ (r ≡ length (printLine loadsWord (runs ∷ (runs - carried) ∷ [])))
-        × (now (out .exit) ≡ over (printLine loadsWord (runs ∷ (runs - carried) ∷ [])) (now (out .entry))) ⌝ }
+    requires { ⌜ (carried ≤ runs) × (runs ≤ 128) × (22 ≤ length (now out)) ⌝ }
+    ensures { λ r. ⌜ Puts (printLine loadsWord (runs ∷ (runs - carried) ∷ [])) (now (out .entry)) (now (out .exit)) r ⌝ }
+    ensures { λ r. ⌜ r ≤ 22 ⌝ }
 {
     let numbers = [runs as u64, (runs - carried) as u64];
     put_line(out, b"loads", &numbers)
@@ -119,9 +118,9 @@ fn put_loads(out: &mut [u8], runs: u32, carried: u32) -> usize
 
 // The plan: block length, engines, duties.
 fn put_head(out: &mut [u8], rd: Reading) -> usize
-    requires { ⌜ length (printLine planWord (rd .«block_length» ∷ rd .engines ∷ rd .duties ∷ [])) ≤ length (now out) ⌝ }
-    ensures { λ r. ⌜ (r ≡ length (printLine planWord (rd .«block_length» ∷ rd .engines ∷ rd .duties ∷ [])))
-        × (now (out .exit) ≡ over (printLine planWord (rd .«block_length» ∷ rd .engines ∷ rd .duties ∷ [])) (now (out .entry))) ⌝ }
+    requires { ⌜ (rd .«block_length» ≤ mostTicks) × (rd .engines ≤ 32) × (rd .duties ≤ 64) × (29 ≤ length (now out)) ⌝ }
+    ensures { λ r. ⌜ Puts (printLine planWord (rd .«block_length» ∷ rd .engines ∷ rd .duties ∷ [])) (now (out .entry)) (now (out .exit)) r ⌝ }
+    ensures { λ r. ⌜ r ≤ 29 ⌝ }
 {
     let numbers = [rd.block_length as u64, rd.engines as u64, rd.duties as u64];
     put_line(out, b"plan", &numbers)
@@ -132,9 +131,8 @@ fn put_text(out: &mut [u8], b: &[u8], rd: Reading) -> usize
     requires { ⌜ Formed (now b) rd ⌝ }
     requires { ⌜ Meets (tableOf (now b) rd) ⌝ }
     requires { ⌜ 8192 ≤ length (now out) ⌝ }
-    ensures { λ r. ⌜ (r ≡ length (planText (tableOf (now (b .entry)) rd)))
-        × (now (out .exit) ≡ over (planText (tableOf (now (b .entry)) rd)) (now (out .entry)))
-        × (r ≤ 8192) ⌝ }
+    ensures { λ r. ⌜ Puts (planText (tableOf (now (b .entry)) rd)) (now (out .entry)) (now (out .exit)) r ⌝ }
+    ensures { λ r. ⌜ r ≤ 8192 ⌝ }
 {
     let mut at = put_head(out, rd);
     at += put_duties(&mut out[at..], b, rd);

@@ -3,8 +3,9 @@
 ghost use mathlib.Core.Path.{_≡_};
 ghost use Prim.Native.Nat.{_≤_};
 ghost use lib.ListN.{length};
-ghost use Rattle.laws.specs.Lists.{flat, over};
+ghost use Rattle.laws.specs.Lists.{flat};
 ghost use Rattle.paper.specs.Text.{decimal, printLine};
+ghost use Rattle.print_lines.specs.Puts.{Puts};
 ghost use Rattle.print_lines.specs.Spaced.{spaced};
 use records::put_bytes;
 
@@ -24,7 +25,7 @@ fn digit_count(n: u64) -> usize
 // A space and a number: the digits are stored from the last to the first.
 fn put_number(out: &mut [u8], n: u64) -> usize
     requires { ⌜ length (spaced n) ≤ length (now out) ⌝ }
-    ensures { λ r. ⌜ (r ≡ length (spaced n)) × (now (out .exit) ≡ over (spaced n) (now (out .entry))) ⌝ }
+    ensures { λ r. ⌜ Puts (spaced n) (now (out .entry)) (now (out .exit)) r ⌝ }
 {
     let count = digit_count(n);
     let mut k = count;
@@ -41,8 +42,7 @@ fn put_number(out: &mut [u8], n: u64) -> usize
 // Each number after a space.
 fn put_numbers(out: &mut [u8], numbers: &[u64]) -> usize
     requires { ⌜ length (flat spaced (now numbers)) ≤ length (now out) ⌝ }
-    ensures { λ r. ⌜ (r ≡ length (flat spaced (now (numbers .entry))))
-        × (now (out .exit) ≡ over (flat spaced (now (numbers .entry))) (now (out .entry))) ⌝ }
+    ensures { λ r. ⌜ Puts (flat spaced (now (numbers .entry))) (now (out .entry)) (now (out .exit)) r ⌝ }
 {
     let mut at = 0;
     let mut i = 0;
@@ -56,8 +56,7 @@ fn put_numbers(out: &mut [u8], numbers: &[u64]) -> usize
 // A line with its word and its numbers.
 pub fn put_line(out: &mut [u8], word: &[u8], numbers: &[u64]) -> usize
     requires { ⌜ length (printLine (now word) (now numbers)) ≤ length (now out) ⌝ }
-    ensures { λ r. ⌜ (r ≡ length (printLine (now (word .entry)) (now (numbers .entry))))
-        × (now (out .exit) ≡ over (printLine (now (word .entry)) (now (numbers .entry))) (now (out .entry))) ⌝ }
+    ensures { λ r. ⌜ Puts (printLine (now (word .entry)) (now (numbers .entry))) (now (out .entry)) (now (out .exit)) r ⌝ }
 {
     put_bytes(out, word);
     let at = word.len();

@@ -17,6 +17,7 @@ use Rattle.paper.specs.Words.{dutyAt}
 use Rattle.paper.specs.Text.{printLine, dutyWord, dutyLine}
 use Rattle.form.specs.Formed.{tableOf}
 use Rattle.form.proofs.Table.{table-duties}
+use Rattle.plan_text.proofs.PlanText.{duties-most}
 use Rattle.plan_text.proofs.put_duties.Statement.{statement}
 use Rattle.plan_text.proofs.put_duties.Tie as tie
 
@@ -48,10 +49,10 @@ loop-holds : tie.Need-loop-holds Inv-loop μ-loop
 loop-holds c = listing-start _ _ _
 
 sub-put-duty : tie.Need-sub-put-duty Inv-loop μ-loop
-sub-put-duty c = omega (arith, listing-at (c .before .loop .inv))
+sub-put-duty c = omega (arith, duties-most (c .before .before .before .before .before .args .b .now) (c .before .before .before .before .before .args .rd) (c .before .before .before .before .before .pre .0), listing-at (c .before .loop .inv))
 
 part-put-duty-start : tie.Need-part-put-duty-start Inv-loop μ-loop
-part-put-duty-start c = omega (arith, listing-at (c .before .loop .inv))
+part-put-duty-start c = omega (arith, duties-most (c .before .before .before .before .before .args .b .now) (c .before .before .before .before .before .args .rd) (c .before .before .before .before .before .pre .0), listing-at (c .before .loop .inv))
 
 part-put-duty-end : tie.Need-part-put-duty-end Inv-loop μ-loop
 part-put-duty-end c = search needs
@@ -60,10 +61,10 @@ duty-of-requires : tie.Need-duty-of-requires Inv-loop μ-loop
 duty-of-requires c κs = (c .before .before .before .before .before .before .pre .0, search needs)
 
 put-duty-requires : tie.Need-put-duty-requires Inv-loop μ-loop
-put-duty-requires c κs = rw length-lent (omega (arith, listing-room 0 _ (line (c .before .before .before .before .before .before .before .args .b .now) (c .before .before .before .before .before .before .before .args .rd) (c .before .before .before .loop .i) (c .duty-of .result) (search needs) (c .duty-of .ensures .0)) (c .before .before .before .loop .inv) (in-list (c .before .before .before .before .before .before .before .args .b .now) (c .before .before .before .before .before .before .before .args .rd) (c .before .before .before .loop .i) (search needs))))
+put-duty-requires c κs = rw length-lent (omega (arith, duties-most (c .before .before .before .before .before .before .before .args .b .now) (c .before .before .before .before .before .before .before .args .rd) (c .before .before .before .before .before .before .before .pre .0), listing-room 0 _ (line (c .before .before .before .before .before .before .before .args .b .now) (c .before .before .before .before .before .before .before .args .rd) (c .before .before .before .loop .i) (c .duty-of .result) (search needs) (c .duty-of .ensures .0)) (c .before .before .before .loop .inv) (in-list (c .before .before .before .before .before .before .before .args .b .now) (c .before .before .before .before .before .before .before .args .rd) (c .before .before .before .loop .i) (search needs))))
 
 add-at : tie.Need-add-at Inv-loop μ-loop
-add-at c = omega (arith, listing-room 0 _ (line (c .before .before .before .before .before .before .before .before .before .before .args .b .now) (c .before .before .before .before .before .before .before .before .before .before .args .rd) (c .before .before .before .before .before .before .loop .i) (c .before .before .before .duty-of .result) (search needs) (c .before .before .before .duty-of .ensures .0)) (c .before .before .before .before .before .before .loop .inv) (in-list (c .before .before .before .before .before .before .before .before .before .before .args .b .now) (c .before .before .before .before .before .before .before .before .before .before .args .rd) (c .before .before .before .before .before .before .loop .i) (search needs)))
+add-at c = omega (arith, duties-most (c .before .before .before .before .before .before .before .before .before .before .args .b .now) (c .before .before .before .before .before .before .before .before .before .before .args .rd) (c .before .before .before .before .before .before .before .before .before .before .pre .0), listing-room 0 _ (line (c .before .before .before .before .before .before .before .before .before .before .args .b .now) (c .before .before .before .before .before .before .before .before .before .before .args .rd) (c .before .before .before .before .before .before .loop .i) (c .before .before .before .duty-of .result) (search needs) (c .before .before .before .duty-of .ensures .0)) (c .before .before .before .before .before .before .loop .inv) (in-list (c .before .before .before .before .before .before .before .before .before .before .args .b .now) (c .before .before .before .before .before .before .before .before .before .before .args .rd) (c .before .before .before .before .before .before .loop .i) (search needs)))
 
 add-i : tie.Need-add-i Inv-loop μ-loop
 add-i c = search needs
@@ -82,7 +83,9 @@ same-length : tie.Need-same-length Inv-loop μ-loop
 same-length c = search needs
 
 returns : tie.Need-returns Inv-loop μ-loop
-returns c = listing-end (c .before .loop .inv) (past-list (c .before .before .before .before .before .args .b .now) (c .before .before .before .before .before .args .rd) (c .before .loop .i) (search needs))
+returns c =
+    let all = listing-end (c .before .loop .inv) (past-list (c .before .before .before .before .before .args .b .now) (c .before .before .before .before .before .args .rd) (c .before .loop .i) (search needs)) in
+    (all, omega (arith, all .0, duties-most (c .before .before .before .before .before .args .b .now) (c .before .before .before .before .before .args .rd) (c .before .before .before .before .before .pre .0)))
 
 pub put-duties-spec : {M : Type 1} → statement M
 put-duties-spec =

@@ -11,6 +11,7 @@ use Rattle.paper.specs.Words.{run, runAt}
 use Rattle.paper.specs.Text.{runLine}
 use Rattle.form.specs.Formed.{tableOf}
 use Rattle.form.proofs.Table.{table-runs}
+use Rattle.plan_text.proofs.PlanText.{runs-most}
 use Rattle.plan_text.proofs.put_runs.Statement.{statement}
 use Rattle.plan_text.proofs.put_runs.Tie as tie
 
@@ -27,10 +28,10 @@ loop-holds : tie.Need-loop-holds Inv-loop μ-loop
 loop-holds c = listing-start runLine _ _
 
 sub-put-run : tie.Need-sub-put-run Inv-loop μ-loop
-sub-put-run c = omega (arith, listing-at (c .before .loop .inv))
+sub-put-run c = omega (arith, runs-most (c .before .before .before .before .before .args .b .now) (c .before .before .before .before .before .args .rd) (c .before .before .before .before .before .pre .0), listing-at (c .before .loop .inv))
 
 part-put-run-start : tie.Need-part-put-run-start Inv-loop μ-loop
-part-put-run-start c = omega (arith, listing-at (c .before .loop .inv))
+part-put-run-start c = omega (arith, runs-most (c .before .before .before .before .before .args .b .now) (c .before .before .before .before .before .args .rd) (c .before .before .before .before .before .pre .0), listing-at (c .before .loop .inv))
 
 part-put-run-end : tie.Need-part-put-run-end Inv-loop μ-loop
 part-put-run-end c = search needs
@@ -39,10 +40,10 @@ run-of-requires : tie.Need-run-of-requires Inv-loop μ-loop
 run-of-requires c κs = (c .before .before .before .before .before .before .pre .0, search needs)
 
 put-run-requires : tie.Need-put-run-requires Inv-loop μ-loop
-put-run-requires c κs = rw length-lent (omega (arith, listing-room (run 0 0 0 0) _ (ap runLine (c .run-of .ensures .0)) (c .before .before .before .loop .inv) (rw (table-runs (c .before .before .before .before .before .before .before .args .b .now) (c .before .before .before .before .before .before .before .args .rd)) (search needs))))
+put-run-requires c κs = rw length-lent (omega (arith, runs-most (c .before .before .before .before .before .before .before .args .b .now) (c .before .before .before .before .before .before .before .args .rd) (c .before .before .before .before .before .before .before .pre .0), listing-room (run 0 0 0 0) _ (ap runLine (c .run-of .ensures .0)) (c .before .before .before .loop .inv) (rw (table-runs (c .before .before .before .before .before .before .before .args .b .now) (c .before .before .before .before .before .before .before .args .rd)) (search needs))))
 
 add-at : tie.Need-add-at Inv-loop μ-loop
-add-at c = omega (arith, listing-room (run 0 0 0 0) _ (ap runLine (c .before .before .before .run-of .ensures .0)) (c .before .before .before .before .before .before .loop .inv) (rw (table-runs (c .before .before .before .before .before .before .before .before .before .before .args .b .now) (c .before .before .before .before .before .before .before .before .before .before .args .rd)) (search needs)))
+add-at c = omega (arith, runs-most (c .before .before .before .before .before .before .before .before .before .before .args .b .now) (c .before .before .before .before .before .before .before .before .before .before .args .rd) (c .before .before .before .before .before .before .before .before .before .before .pre .0), listing-room (run 0 0 0 0) _ (ap runLine (c .before .before .before .run-of .ensures .0)) (c .before .before .before .before .before .before .loop .inv) (rw (table-runs (c .before .before .before .before .before .before .before .before .before .before .args .b .now) (c .before .before .before .before .before .before .before .before .before .before .args .rd)) (search needs)))
 
 add-k : tie.Need-add-k Inv-loop μ-loop
 add-k c = search needs
@@ -63,7 +64,8 @@ returns : tie.Need-returns Inv-loop μ-loop
 returns c =
     let b = c .before .before .before .before .before .args .b .now in
     let rd = c .before .before .before .before .before .args .rd in
-    listing-end (c .before .loop .inv) (rw (table-runs b rd) (search needs))
+    let all = listing-end (c .before .loop .inv) (rw (table-runs b rd) (search needs)) in
+    (all, omega (arith, all .0, runs-most b rd (c .before .before .before .before .before .pre .0)))
 
 pub put-runs-spec : {M : Type 1} → statement M
 put-runs-spec =
