@@ -2,14 +2,13 @@
 -- Assumes nothing.
 use Prim.Native.Nat.{ℕ, _+_, _-_, _*_, _≤_, _<_}
 use mathlib.Core.Path.{_≡_, refl, sym, ap, _∙_}
-use mathlib.Core.List.{List, [], _∷_, _++_, append-nil}
-use native.Mathlib.Nat.{add-zero}
+use mathlib.Core.List.{List, [], _∷_, _++_}
 use native.Mathlib.Omega.{arith}
 use lib.ListN.{length, getD, take, drop, length-append}
 use Rattle.laws.specs.Lists.{flat, over}
 use Rattle.laws.proofs.Lists.{flat-left, flat-none}
 use Rattle.laws.proofs.Each.{Each}
-use Rattle.laws.proofs.Writing.{Wrote, start, more, next, moved, done, room}
+use Rattle.laws.proofs.Writing.{Wrote, start, more, next, moved, room, all-written}
 
 -- i of the entries are written over the front of l, up to the place `at`
 pub record Listing {A : Type 0} (f : A → List ℕ) (items : List A) (l xs : List ℕ) (at i : ℕ) : Type 0 where
@@ -52,8 +51,7 @@ listing-more {A} {f} {items} {l} {xs} {at} {i} d p ys n q s h e w g =
 -- after the last entry all is written
 pub listing-end : {A : Type 0} {f : A → List ℕ} {items : List A} {l xs : List ℕ} {at i : ℕ} → Listing f items l xs at i → length items ≤ i
     → (at ≡ length (flat f items)) × (xs ≡ over (flat f items) l)
-listing-end {A} {f} {items} {l} {xs} {at} {i} s h =
-    let all = next (flat-none f items i h) (s .wrote) in (sym (add-zero at) ∙ room all, done (flat f items) l xs at all)
+listing-end {A} {f} {items} {l} {xs} {at} {i} s h = all-written (next (flat-none f items i h) (s .wrote))
 
 -- entries that give at most s each give at most s times as many in all
 pub flat-most : {A : Type 0} (f : A → List ℕ) (s : ℕ) (xs : List A) → Each (λ x. length (f x) ≤ s) xs → length (flat f xs) ≤ s * length xs

@@ -5,13 +5,12 @@ use Prim.Native.Nat.{ℕ, _+_, _-_, _*_, _≤_, _<_}
 use mathlib.Core.Path.{_≡_, refl, sym, ap, subst, _∙_}
 use mathlib.Core.Bool.{Bool}
 use mathlib.Core.List.{List, [], _∷_, _++_, append-nil}
-use native.Mathlib.Nat.{add-zero}
 use native.Mathlib.Numerals.{add-one}
 use native.Mathlib.Omega.{arith}
 use lib.ListN.{length, take, drop}
 use Rattle.laws.specs.Lists.{flat, over}
 use Rattle.laws.proofs.Lists.{flat-append}
-use Rattle.laws.proofs.Writing.{Wrote, written, grown, room, done, over-nothing}
+use Rattle.laws.proofs.Writing.{Wrote, written, grown, all-written, over-nothing}
 use Rattle.paper.specs.Rotation.{Chain, firstOf, chainsBelow}
 use Rattle.paper.specs.Text.{printLine, chainWord, chainLine}
 use Rattle.paper.proofs.Rotation.{first-zero, first-cut}
@@ -82,4 +81,4 @@ pub chained-end : (c : ℕ → Bool) (m : ℕ) {l xs : List ℕ} {at k : ℕ} �
 chained-end c m {l} {xs} {at} {k} s h =
     let z : k ≡ m = omega (arith, s .within) in
     let all : Wrote (linesBelow c m m) l [] xs at = subst (λ j. Wrote (linesBelow c m j) l [] xs at) z (s .wrote) in
-    ((sym (add-zero at) ∙ room all, done (linesBelow c m m) l xs at all), omega (arith, s .most))
+    (all-written all, omega (arith, s .most))

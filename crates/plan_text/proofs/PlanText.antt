@@ -3,8 +3,8 @@
 -- there are at most 64 duties, 128 runs and 32 chains.
 -- Assumes nothing.
 use Prim.Native.Nat.{ℕ, _-_, _≤_, _<_}
-use mathlib.Core.Path.{_≡_, subst, _∙_}
-use mathlib.Core.List.{List, [], _∷_}
+use mathlib.Core.Path.{_≡_, sym, subst, _∙_}
+use mathlib.Core.List.{List, [], _∷_, _++_, append-assoc}
 use native.Mathlib.Omega.{arith}
 use lib.ListN.{length, getD}
 use Rattle.laws.specs.Lists.{tab, flat}
@@ -17,7 +17,7 @@ use Rattle.paper.specs.Bytes.{small, mostTicks}
 use Rattle.paper.specs.Rotation.{link, firstOf, chainsBelow}
 use Rattle.paper.specs.Schedule.{loads}
 use Rattle.paper.specs.Statements.{Meets, DutyRanged, RunRanged}
-use Rattle.paper.specs.Text.{printLine, planWord, dutyWord, runWord, loadsWord, planLine, dutyLine, runLine, chainLine, loadsLine}
+use Rattle.paper.specs.Text.{printLine, planWord, dutyWord, runWord, loadsWord, planLine, dutyLine, runLine, chainLine, loadsLine, planText}
 use Rattle.paper.proofs.Links.{closed, rows-end}
 use Rattle.paper.proofs.Loads.{later-is}
 use Rattle.paper.proofs.Starts.{laid, loads-runs, later-runs}
@@ -27,7 +27,7 @@ use Rattle.rotation.specs.Readable.{Readable}
 use Rattle.rotation.specs.Edges.{linkOf, startsOf, endsOf, carriedOf}
 use Rattle.rotation.proofs.Linking.{link-read, carried-read}
 use Rattle.print_lines.proofs.Line.{line-most}
-use Rattle.plan_text.specs.Parts.{dutyLines, runLines, chainLines}
+use Rattle.plan_text.specs.Parts.{dutyLines, runLines, chainLines, tableLines, rotationLines}
 
 -- ---- how long the parts are
 
@@ -72,6 +72,11 @@ loads-most runs k h = omega (arith, line-most 6 loadsWord (runs ∷ (runs - k) �
 
 pub head-is : (b : List ℕ) (rd : Reading) → Formed b rd → printLine planWord (rd .«block_length» ∷ rd .engines ∷ rd .duties ∷ []) ≡ planLine (tableOf b rd)
 head-is b rd F = rw (table-ticks b rd F, table-engines b rd F, table-duties b rd)
+
+-- the whole text is what stands in the table and what follows from it
+pub text-is : (t : Table) → tableLines t ++ rotationLines t ≡ planText t
+unfolding tableLines rotationLines planText
+text-is t = sym (append-assoc (planLine t ++ dutyLines t ++ runLines t) (chainLines t) (loadsLine t))
 
 -- the runs of bytes in good form can be read
 pub readable : (b : List ℕ) (rd : Reading) → Formed b rd → Readable b rd

@@ -11,7 +11,7 @@ ghost use Rattle.paper.specs.Statements.{Meets};
 ghost use Rattle.rotation.specs.Edges.{linkOf};
 ghost use Rattle.form.specs.Formed.{Formed, tableOf};
 ghost use Rattle.print_lines.specs.Puts.{Puts};
-ghost use Rattle.plan_text.specs.Parts.{dutyLines, runLines};
+ghost use Rattle.plan_text.specs.Parts.{dutyLines, runLines, tableLines, rotationLines};
 use form::duty_of;
 use form::run_of;
 use paper::Duty;
@@ -126,6 +126,33 @@ fn put_head(out: &mut [u8], rd: Reading) -> usize
     put_line(out, b"plan", &numbers)
 }
 
+// What stands in the table: plan, duties, runs.
+fn put_table(out: &mut [u8], b: &[u8], rd: Reading) -> usize
+    requires { ⌜ Formed (now b) rd ⌝ }
+    requires { ⌜ 6493 ≤ length (now out) ⌝ }
+    ensures { λ r. ⌜ Puts (tableLines (tableOf (now (b .entry)) rd)) (now (out .entry)) (now (out .exit)) r ⌝ }
+    ensures { λ r. ⌜ r ≤ 6493 ⌝ }
+{
+    let duties = put_head(out, rd);
+    let runs = duties + put_duties(&mut out[duties..], b, rd);
+    runs + put_runs(&mut out[runs..], b, rd)
+}
+
+// What follows from the table: chains and loads.
+fn put_rotation(out: &mut [u8], b: &[u8], rd: Reading) -> usize
+    requires { ⌜ Formed (now b) rd ⌝ }
+    requires { ⌜ Meets (tableOf (now b) rd) ⌝ }
+    requires { ⌜ 406 ≤ length (now out) ⌝ }
+    ensures { λ r. ⌜ Puts (rotationLines (tableOf (now (b .entry)) rd)) (now (out .entry)) (now (out .exit)) r ⌝ }
+    ensures { λ r. ⌜ r ≤ 406 ⌝ }
+{
+    let e = edges_of(b, rd);
+    let starts = e.starts;
+    let ends = e.ends;
+    let at = put_chains(out, &starts, &ends, rd.engines);
+    at + put_loads(&mut out[at..], rd.runs, carried(&starts, &ends, rd.engines))
+}
+
 // The text of a plan whose bytes are in good form and meet the rules.
 fn put_text(out: &mut [u8], b: &[u8], rd: Reading) -> usize
     requires { ⌜ Formed (now b) rd ⌝ }
@@ -134,12 +161,6 @@ fn put_text(out: &mut [u8], b: &[u8], rd: Reading) -> usize
     ensures { λ r. ⌜ Puts (planText (tableOf (now (b .entry)) rd)) (now (out .entry)) (now (out .exit)) r ⌝ }
     ensures { λ r. ⌜ r ≤ 8192 ⌝ }
 {
-    let mut at = put_head(out, rd);
-    at += put_duties(&mut out[at..], b, rd);
-    at += put_runs(&mut out[at..], b, rd);
-    let e = edges_of(b, rd);
-    let starts = e.starts;
-    let ends = e.ends;
-    at += put_chains(&mut out[at..], &starts, &ends, rd.engines);
-    at + put_loads(&mut out[at..], rd.runs, carried(&starts, &ends, rd.engines))
+    let at = put_table(out, b, rd);
+    at + put_rotation(&mut out[at..], b, rd)
 }
