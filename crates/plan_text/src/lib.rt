@@ -5,20 +5,29 @@ ghost use Prim.Native.Nat.{_+_, _-_, _*_, _≤_};
 ghost use lib.ListN.{length};
 ghost use Rattle.laws.specs.Lists.{flat};
 ghost use Rattle.paper.specs.Bytes.{mostTicks};
-ghost use Rattle.paper.specs.Text.{printLine, planWord, dutyWord, chainWord, loadsWord, runLine, chainLine, planText};
+ghost use Rattle.paper.specs.Text.{printLine, planWord, dutyWord, chainWord, loadsWord, runLine, chainLine, planText, textFor};
+ghost use Rattle.paper.specs.Outcome.{lengthOf, leaves};
+ghost use Rattle.paper.specs.Builder.{fitted};
 ghost use Rattle.paper.specs.Rotation.{firstOf, chainsBelow};
 ghost use Rattle.paper.specs.Statements.{Meets};
 ghost use Rattle.rotation.specs.Edges.{linkOf};
 ghost use Rattle.form.specs.Formed.{Formed, tableOf};
 ghost use Rattle.print_lines.specs.Puts.{Puts};
+ghost use Rattle.judge.specs.AcceptedAs.{AcceptedAs};
+ghost use Rattle.plan_text.specs.Told.{textAs};
 ghost use Rattle.plan_text.specs.Parts.{dutyLines, runLines, tableLines, rotationLines};
 use form::duty_of;
 use form::run_of;
+use judge::judge;
+use judge::number_of;
+use judge::place_of;
 use paper::Duty;
+use paper::Judged;
 use paper::Reading;
 use paper::Row;
 use paper::Run;
 use print_lines::put_line;
+use records::put_bytes;
 use rotation::carried;
 use rotation::chain_last;
 use rotation::edges_of;
@@ -163,4 +172,37 @@ fn put_text(out: &mut [u8], b: &[u8], rd: Reading) -> usize
 {
     let at = put_table(out, b, rd);
     at + put_rotation(&mut out[at..], b, rd)
+}
+
+// The text's length, or a refusal's number and place.
+pub enum Text {
+    Length(usize),
+    Refused(u32, usize),
+}
+
+// The text of an accepted table, if the buffer has the room. It is made apart, since a buffer that is too short keeps
+// its bytes.
+fn fit_text(out: &mut [u8], b: &[u8], rd: Reading) -> Text
+    requires { ⌜ AcceptedAs (now b) rd ⌝ }
+    ensures { λ r. ⌜ textAs r ≡ lengthOf (fitted (length (now (out .entry))) (planText (tableOf (now (b .entry)) rd))) ⌝ }
+    ensures { λ r. ⌜ now (out .exit) ≡ leaves (fitted (length (now (out .entry))) (planText (tableOf (now (b .entry)) rd))) (now (out .entry)) ⌝ }
+{
+    let mut text = [0; 8192];
+    let n = put_text(&mut text, b, rd);
+    if out.len() < n {
+        return Text::Refused(8, n);
+    }
+    put_bytes(out, &text[..n]);
+    Text::Length(n)
+}
+
+// The text of the table in any bytes: 10 to 17 if they are refused, then 8 if the text is longer than the buffer.
+pub fn plan_text(table: &[u8], out: &mut [u8]) -> Text
+    ensures { λ r. ⌜ textAs r ≡ lengthOf (textFor (now (table .entry)) (length (now (out .entry)))) ⌝ }
+    ensures { λ r. ⌜ now (out .exit) ≡ leaves (textFor (now (table .entry)) (length (now (out .entry)))) (now (out .entry)) ⌝ }
+{
+    match judge(table) {
+        Judged::Accepted(rd) => fit_text(out, table, rd),
+        Judged::Bad(fault) => Text::Refused(number_of(fault), place_of(fault)),
+    }
 }
