@@ -1,11 +1,10 @@
 -- The duties of two lists: how many there are, which one stands where, their block length, and what is left of them and of
 -- their slices. A duty of the lists is made of the entries at its index, so each is a law of `tab` and `map`.
 -- Assumes nothing.
-use Prim.Native.Nat.{ℕ, zero, suc, _+_, _≤_, _<_}
-use mathlib.Core.Path.{_≡_, refl, sym, ap, _∙_}
-use mathlib.Core.Bool.{Bool, true, false, not}
+use Prim.Native.Nat.{ℕ, _+_, _≤_, _<_}
+use mathlib.Core.Path.{_≡_, sym, ap, _∙_}
+use mathlib.Core.Bool.{true}
 use mathlib.Core.List.{List, [], _∷_, map}
-use native.Mathlib.Nat.{le-of-dvd}
 use native.Mathlib.Numerals.{add-one}
 use native.Mathlib.Omega.{arith}
 use lib.Dec.{leb}
@@ -14,7 +13,6 @@ use lib.Seq.{drop-cons}
 use borrow.Author.Tests.{leb-true}
 use Rattle.laws.specs.Divisor.{gcdOf}
 use Rattle.laws.specs.Lists.{tab, sumOf}
-use Rattle.laws.proofs.Divisor.{gcdOf-divides, gcdOf-positive}
 use Rattle.laws.proofs.Lists.{length-tab, getD-tab, map-tab, tab-getD, drop-map, and-left, and-right, sumOf-step, sumOf-done}
 use Rattle.paper.specs.declared.Duty.{Duty}
 use Rattle.paper.specs.Words.{duty, dutyAt, slice, blockLengthOf}

@@ -1,7 +1,6 @@
 // The builder: from services and periods to a table's bytes, by SA1. It stands in three parts: the tests up to refusal 5
 // and the block length; the refusals 6 to 8 for any block length; and the writing.
 ghost use mathlib.Core.Path.{_≡_};
-ghost use mathlib.Core.Bool.{not};
 ghost use Prim.Native.Nat.{_+_, _*_, _≤_, _<_};
 ghost use lib.ListN.{length};
 ghost use Rattle.laws.specs.Choice.{pick};
@@ -31,9 +30,9 @@ pub enum Built {
 }
 
 // The row and the unit where the next duty starts.
-pub struct Place {
-    pub row: Row,
-    pub unit: u32,
+struct Place {
+    row: Row,
+    unit: u32,
 }
 
 // ---- the duties
@@ -176,14 +175,46 @@ fn put_duties(out: &mut [u8], services: &[u32], periods: &[u32])
     }
 }
 
-// Writes the runs of duty i, whose slice is n, and answers how many bytes they have. At an exact fit there is one.
+// Writes the two runs of duty i, whose slice of n units goes past the end of the row: the first goes to the end, the second
+// starts at unit 0 of the next row and has what is left.
+fn put_split(out: &mut [u8], t: u32, n: u32, i: u32, from: Place)
+    requires { ⌜ (from .unit < t) × (n ≤ t) × (t ≤ mostTicks) × (from .row .0 ≤ small .mostDuties) × (t < from .unit + n) × (22 ≤ length (now out)) ⌝ }
+    ensures { λ r. ⌜ now (out .exit) ≡ over (runsBytes (laidAt t n i from)) (now (out .entry)) ⌝ }
+{
+    let row = from.row.0;
+    let unit = from.unit;
+    let to_end = t - unit;
+    put_run(
+        out,
+        Run {
+            row: Row(row),
+            duty: i,
+            first: unit,
+            length: to_end,
+        },
+    );
+    let next = row + 1;
+    let rest = unit + n - t;
+    put_run(
+        &mut out[11..],
+        Run {
+            row: Row(next),
+            duty: i,
+            first: 0,
+            length: rest,
+        },
+    );
+}
+
+// Writes the runs of duty i, whose slice is n, and answers how many bytes they have. At an exact fit there is one run.
 fn put_duty_runs(out: &mut [u8], t: u32, n: u32, i: u32, from: Place) -> usize
     requires { ⌜ (from .unit < t) × (n ≤ t) × (t ≤ mostTicks) × (from .row .0 ≤ small .mostDuties) × (11 * runsAt t n (from .unit) ≤ length (now out)) ⌝ }
     ensures { λ r. ⌜ (now (out .exit) ≡ over (runsBytes (laidAt t n i from)) (now (out .entry))) × (r ≡ 11 * runsAt t n (from .unit)) ⌝ }
 {
     let row = from.row.0;
     let unit = from.unit;
-    if unit + n <= t {
+    let end = unit + n;
+    if end <= t {
         put_run(
             out,
             Run {
@@ -195,24 +226,7 @@ fn put_duty_runs(out: &mut [u8], t: u32, n: u32, i: u32, from: Place) -> usize
         );
         return 11;
     }
-    put_run(
-        &mut out[0..],
-        Run {
-            row: Row(row),
-            duty: i,
-            first: unit,
-            length: t - unit,
-        },
-    );
-    put_run(
-        &mut out[11..],
-        Run {
-            row: Row(row + 1),
-            duty: i,
-            first: 0,
-            length: unit + n - t,
-        },
-    );
+    put_split(out, t, n, i, from);
     22
 }
 
@@ -233,4 +247,84 @@ fn put_runs(out: &mut [u8], t: u32, services: &[u32], periods: &[u32])
         place = after(t, n, place);
         i += 1;
     }
+}
+
+// Writes SA1's table over the front of a buffer that has the room: head, duties, runs, end, each record where the last one
+// stopped. The block length is any in range.
+fn put_table(out: &mut [u8], t: u32, engines: u32, services: &[u32], periods: &[u32], runs: usize)
+    requires { ⌜ Ready t (now services) (now periods) × (runs ≡ length (laidFrom t (slices t (dutiesOf (now services) (now periods))) 0 corner)) × (runs ≤ 2 * length (now services)) × (10 + 9 * length (now services) + 11 * runs ≤ length (now out)) ⌝ }
+    ensures { λ r. ⌜ now (out .exit) ≡ over (encode small (sa1 t engines (dutiesOf (now (services .entry)) (now (periods .entry))))) (now (out .entry)) ⌝ }
+{
+    let duties = services.len();
+    put_head(out, t, engines, duties as u32);
+    put_duties(&mut out[7..], services, periods);
+    let runs_start = 7 + 9 * duties;
+    put_runs(&mut out[runs_start..], t, services, periods);
+    let end = runs_start + 11 * runs;
+    put_end(&mut out[end..], runs as u32);
+}
+
+// ---- the refusals
+
+// Whether a number is from low to high.
+fn between(v: usize, low: usize, high: usize) -> bool
+    ensures { λ r. ⌜ r ≡ within low high v ⌝ }
+{
+    (low <= v) & (v <= high)
+}
+
+// 4, or 5 where the period of duty d is in range and its service is not.
+fn range_fault(period: u32, d: usize) -> Built
+    ensures { λ r. ⌜ builtAs r ≡ pick (within 1 mostTicks period) (refused 5 d) (refused 4 d) ⌝ }
+{
+    if between(period as usize, 1, 1_000_000) {
+        return Built::Refused(5, d);
+    }
+    Built::Refused(4, d)
+}
+
+// The builder from refusal 6 on, for any block length in range.
+fn build_at(t: u32, engines: u32, services: &[u32], periods: &[u32], out: &mut [u8]) -> Built
+    requires { ⌜ Ready t (now services) (now periods) × (engines ≤ small .mostEngines) ⌝ }
+    ensures { λ r. ⌜ (builtAs r ≡ lengthOf (buildAt t engines (dutiesOf (now (services .entry)) (now (periods .entry))) (length (now (out .entry))))) × (now (out .exit) ≡ leaves (buildAt t engines (dutiesOf (now (services .entry)) (now (periods .entry))) (length (now (out .entry)))) (now (out .entry))) ⌝ }
+{
+    let duties = services.len();
+    let bad = bad_slice(t, services, periods);
+    if bad < duties {
+        return Built::Refused(6, bad);
+    }
+    let total = total_slices(t, services, periods);
+    if engines * t < total {
+        return Built::Refused(7, 0);
+    }
+    let runs = count_runs(t, services, periods);
+    let needed = 10 + 9 * duties + 11 * runs;
+    if out.len() < needed {
+        return Built::Refused(8, needed);
+    }
+    put_table(out, t, engines, services, periods, runs);
+    Built::Length(needed)
+}
+
+// Builds a table from services and periods. The answer is the table's length in bytes; bytes past it stay. A refusal
+// writes nothing.
+pub fn build(engines: u32, services: &[u32], periods: &[u32], out: &mut [u8]) -> Built
+    ensures { λ r. ⌜ (builtAs r ≡ lengthOf (buildFrom engines (now (services .entry)) (now (periods .entry)) (length (now (out .entry))))) × (now (out .exit) ≡ leaves (buildFrom engines (now (services .entry)) (now (periods .entry)) (length (now (out .entry)))) (now (out .entry))) ⌝ }
+{
+    if !between(engines as usize, 1, 32) {
+        return Built::Refused(1, 0);
+    }
+    let duties = services.len();
+    if duties != periods.len() {
+        return Built::Refused(2, 0);
+    }
+    if !between(duties, 1, 64) {
+        return Built::Refused(3, 0);
+    }
+    let bad = bad_range(services, periods);
+    if bad < duties {
+        return range_fault(periods[bad], bad);
+    }
+    let t = gcd_of_all(periods);
+    build_at(t, engines, services, periods, out)
 }

@@ -1,6 +1,6 @@
 // The judge of tables: the form of the bytes, then the rules.
 ghost use mathlib.Core.Path.{_≡_};
-ghost use Rattle.paper.specs.Outcome.{faultNumber, faultPlace, judgedAs};
+ghost use Rattle.paper.specs.Outcome.{judgedAs, faultNumber, faultPlace};
 ghost use Rattle.paper.specs.Rules.{judged};
 use form::Form;
 use form::form_of;

@@ -9,3 +9,4 @@ pub mod Fields
 pub mod Each
 pub mod Digits
 pub mod Parts
+pub mod Decides

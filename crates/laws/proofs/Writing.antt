@@ -102,6 +102,10 @@ moved {W} {l} {rest} {xs} {a} {b} e r = record { w = r .w; len = r .len ∙ e; i
 pub length-lent : (a : ℕ) (xs : List ℕ) → length (take (length xs - a) (drop a xs)) ≡ length xs - a
 length-lent a xs = simp (length-take, length-drop) (omega arith)
 
+-- after a first call that was lent the whole buffer
+pub begun : (l rest p ys : List ℕ) → ys ≡ over p l → Wrote (p ++ rest) l rest ys (length p)
+begun l rest p ys e = record { w = p; len = refl; is = e; left = refl }
+
 -- ---- a text that grows: all of W is written, and a part is written behind it
 
 pub written : (W l xs : List ℕ) (n : ℕ) → xs ≡ over W l → n ≡ length W → Wrote W l [] xs n

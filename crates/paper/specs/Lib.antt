@@ -9,3 +9,4 @@ pub mod Rules
 pub mod Statements
 pub mod Answers
 pub mod Text
+pub mod Cases

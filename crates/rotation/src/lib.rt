@@ -1,9 +1,7 @@
 // Who holds a unit of a row, and the rotation: which row an engine runs in a block. All is read off table bytes whose
 // runs are in range.
 ghost use mathlib.Core.Path.{_≡_};
-ghost use mathlib.Core.Bool.{true, false};
-ghost use Prim.Native.Nat.{_+_, _*_, _≤_, _<_};
-ghost use lib.ListN.{length, getD};
+ghost use Prim.Native.Nat.{_+_, _≤_, _<_};
 ghost use Rattle.laws.specs.Choice.{pick};
 ghost use Rattle.laws.specs.Search.{first};
 ghost use Rattle.paper.specs.Words.{stop, covers, runAt, heldIn, row};

@@ -1,5 +1,7 @@
+-- `bad_range` searches: the duties passed are in range, and the test says of duty i what the definition says.
+-- Assumes nothing.
 use Prim.Native.Nat.{_-_}
-use mathlib.Core.Path.{_≡_, sym, ap, _∙_}
+use mathlib.Core.Path.{sym, ap, _∙_}
 use mathlib.Core.Bool.{not}
 use native.Mathlib.Omega.{arith}
 use borrow.Author.Needs.{needs}
@@ -11,10 +13,6 @@ use Rattle.paper.specs.Builder.{dutiesOf, badRange}
 use Rattle.builder.proofs.Duties.{duties-length}
 use Rattle.builder.proofs.bad_range.Statement.{statement}
 use Rattle.builder.proofs.bad_range.Tie as tie
-use Rattle.builder.proofs.bad_range.Reads as reads
-use Rattle.builder.proofs.bad_range.Lts as lts
-use Rattle.builder.proofs.duty_at.Reads as duty-at-reads
-use Rattle.builder.proofs.in_range.Reads as in-range-reads
 
 abbrev Inv-loop : tie.InvT-loop
 Inv-loop services periods i₀ i = Seeking (λ d. not (dutyRanged (dutyAt (dutiesOf services periods) d))) (length (dutiesOf services periods)) i
@@ -22,43 +20,39 @@ Inv-loop services periods i₀ i = Seeking (λ d. not (dutyRanged (dutyAt (dutie
 abbrev μ-loop : tie.MeasureT-loop
 μ-loop services periods i₀ i = length services - i
 
--- src/lib.rt:64:5
 loop-holds : tie.Need-loop-holds Inv-loop μ-loop
 loop-holds c = seek-none _ _
 
--- src/lib.rt:65:22
 duty-at-requires : tie.Need-duty-at-requires Inv-loop μ-loop
 duty-at-requires c κs = search needs
 
--- src/lib.rt:65:13
 in-range-requires : tie.Need-in-range-requires Inv-loop μ-loop
 in-range-requires c κs = search needs
 
--- src/lib.rt:66:13
 returns : tie.Need-returns Inv-loop μ-loop
 unfolding badRange
 returns c =
-    seek-hit (c .before .before .before .before .loop .inv) (omega (arith, duties-length (c .before .before .before .before .before .before .before .args .services .now) (c .before .before .before .before .before .before .before .args .periods .now)))
+    let args = c .before .before .before .before .before .before .before .args in
+    seek-hit (c .before .before .before .before .loop .inv) (omega (arith, duties-length (args .services .now) (args .periods .now)))
     (sym (ap not (c .before .in-range .ensures ∙ ap dutyRanged (c .before .before .duty-at .ensures))) ∙ c .if1 .taken)
 
--- src/lib.rt:68:9
 add-i : tie.Need-add-i Inv-loop μ-loop
 add-i c = search needs
 
--- src/lib.rt:64:5
 loop-less : tie.Need-loop-less Inv-loop μ-loop
 loop-less c = search needs
 
--- src/lib.rt:64:5
 loop-again : tie.Need-loop-again Inv-loop μ-loop
 loop-again c =
-    seek-more (c .before .before .before .before .loop .inv) (omega (arith, duties-length (c .before .before .before .before .before .before .before .args .services .now) (c .before .before .before .before .before .before .before .args .periods .now)))
+    let args = c .before .before .before .before .before .before .before .args in
+    seek-more (c .before .before .before .before .loop .inv) (omega (arith, duties-length (args .services .now) (args .periods .now)))
     (sym (ap not (c .before .in-range .ensures ∙ ap dutyRanged (c .before .before .duty-at .ensures))) ∙ c .if1 .left)
 
--- src/lib.rt:59:1
 returns-2 : tie.Need-returns-2 Inv-loop μ-loop
 unfolding badRange
-returns-2 c = seek-miss (c .before .loop .inv) (omega (arith, duties-length (c .before .before .before .before .args .services .now) (c .before .before .before .before .args .periods .now)))
+returns-2 c =
+    let args = c .before .before .before .before .args in
+    seek-miss (c .before .loop .inv) (omega (arith, duties-length (args .services .now) (args .periods .now)))
 
 pub bad-range-spec : {M : Type 1} → statement M
 bad-range-spec =

@@ -1,6 +1,7 @@
+-- `put_duties`: after i turns all of the bytes but those of the duties from i on are laid over the buffer, 9 for each duty.
+-- Assumes nothing.
 use Prim.Native.Nat.{ℕ, _+_, _*_, _-_, _≤_, _<_}
-use mathlib.Core.Path.{_≡_, refl, sym, ap, _∙_}
-use mathlib.Core.List.{[], _++_}
+use mathlib.Core.Path.{_≡_, refl, ap, _∙_}
 use native.Mathlib.Omega.{arith}
 use borrow.Author.Needs.{needs}
 use lib.ListN.{length, take, drop}
@@ -15,10 +16,6 @@ use Rattle.builder.proofs.Duties.{duties-length}
 use Rattle.builder.proofs.Lengths.{duty-length}
 use Rattle.builder.proofs.put_duties.Statement.{statement}
 use Rattle.builder.proofs.put_duties.Tie as tie
-use Rattle.builder.proofs.put_duties.Reads as reads
-use Rattle.builder.proofs.put_duties.Lts as lts
-use Rattle.builder.proofs.duty_at.Reads as duty-at-reads
-use Rattle.records.proofs.put_duty.Reads as put-duty-reads
 
 abbrev Inv-loop : tie.InvT-loop
 Inv-loop out₀ services periods at₀ i₀ out at i =
@@ -28,70 +25,62 @@ Inv-loop out₀ services periods at₀ i₀ out at i =
 abbrev μ-loop : tie.MeasureT-loop
 μ-loop out₀ services periods at₀ i₀ out at i = length services - i
 
--- src/lib.rt:172:5
 loop-holds : tie.Need-loop-holds Inv-loop μ-loop
 loop-holds c = (search needs, refl, refl, start _ _)
 
--- src/lib.rt:173:18
 sub-put-duty : tie.Need-sub-put-duty Inv-loop μ-loop
 sub-put-duty c = search needs
 
--- src/lib.rt:173:18
 part-put-duty-start : tie.Need-part-put-duty-start Inv-loop μ-loop
 part-put-duty-start c = search needs
 
--- src/lib.rt:173:18
 part-put-duty-end : tie.Need-part-put-duty-end Inv-loop μ-loop
 part-put-duty-end c = search needs
 
--- src/lib.rt:173:34
 duty-at-requires : tie.Need-duty-at-requires Inv-loop μ-loop
 duty-at-requires c κs = search needs
 
--- src/lib.rt:173:9
 put-duty-requires : tie.Need-put-duty-requires Inv-loop μ-loop
 put-duty-requires c κs = rw length-lent (search needs)
 
--- src/lib.rt:174:9
 add-at : tie.Need-add-at Inv-loop μ-loop
 add-at c = search needs
 
--- src/lib.rt:175:9
 add-i : tie.Need-add-i Inv-loop μ-loop
 add-i c = search needs
 
--- src/lib.rt:172:5
 loop-less : tie.Need-loop-less Inv-loop μ-loop
 loop-less c = search needs
 
--- src/lib.rt:172:5
 loop-again : tie.Need-loop-again Inv-loop μ-loop
 loop-again c =
-    let ss = c .before .before .before .before .before .before .before .before .before .before .args .services .now in
-    let ps = c .before .before .before .before .before .before .before .before .before .before .args .periods .now in
+    let args = c .before .before .before .before .before .before .before .before .before .before .args in
+    let loop = c .before .before .before .before .before .before .loop in
+    let ss = args .services .now in
+    let ps = args .periods .now in
     let ds = dutiesOf ss ps in
-    let i = c .before .before .before .before .before .before .loop .i in
+    let i = loop .i in
     let h : i < length ds = omega (arith, duties-length ss ps) in
     let here = flat-left dutyBytes (duty 0 0) ds i h in (
       search needs,
       search needs,
       search needs,
-      moved (ap (λ (n : ℕ). c .before .before .before .before .before .before .loop .at + n) (duty-length (dutyAt ds i)))
-          (more _ _ (flat dutyBytes (drop (i + 1) ds)) (c .before .before .before .before .before .before .loop .out) (dutyBytes (dutyAt ds i)) _ (c .before .before .before .before .before .before .loop .at) (next here (c .before .before .before .before .before .before .loop .inv .3))
-          (c .before .before .put-duty .ensures ∙ ap (λ (x : Duty). over (dutyBytes x) (take (length (c .before .before .before .before .before .before .loop .out) - c .before .before .before .before .before .before .loop .at) (drop (c .before .before .before .before .before .before .loop .at) (c .before .before .before .before .before .before .loop .out)))) (c .before .before .before .duty-at .ensures))),
+      moved (ap (λ (n : ℕ). loop .at + n) (duty-length (dutyAt ds i)))
+          (more _ _ (flat dutyBytes (drop (i + 1) ds)) (loop .out) (dutyBytes (dutyAt ds i)) _ (loop .at) (next here (loop .inv .3))
+          (c .before .before .put-duty .ensures ∙ ap (λ (x : Duty). over (dutyBytes x) (take (length (loop .out) - loop .at) (drop (loop .at) (loop .out)))) (c .before .before .before .duty-at .ensures))),
     )
 
--- src/lib.rt:166:1
 same-length : tie.Need-same-length Inv-loop μ-loop
 same-length c = search needs
 
--- src/lib.rt:166:1
 returns : tie.Need-returns Inv-loop μ-loop
 returns c =
-    let ss = c .before .before .before .before .before .args .services .now in
-    let ps = c .before .before .before .before .before .args .periods .now in
-    let none = flat-none dutyBytes (dutiesOf ss ps) (c .before .loop .i) (omega (arith, duties-length ss ps)) in
-    done _ _ (c .before .loop .out) (c .before .loop .at) (next none (c .before .loop .inv .3))
+    let args = c .before .before .before .before .before .args in
+    let loop = c .before .loop in
+    let ss = args .services .now in
+    let ps = args .periods .now in
+    let none = flat-none dutyBytes (dutiesOf ss ps) (loop .i) (omega (arith, duties-length ss ps)) in
+    done _ _ (loop .out) (loop .at) (next none (loop .inv .3))
 
 pub put-duties-spec : {M : Type 1} → statement M
 put-duties-spec =

@@ -1,19 +1,17 @@
+-- `total_slices`: the sum so far, with the slices that are left, is that of them all; it is at most a million for each duty passed.
+-- Assumes nothing.
 use Prim.Native.Nat.{_+_, _*_, _-_, _≤_, _<_}
-use mathlib.Core.Path.{_≡_, refl, sym, ap, _∙_}
+use mathlib.Core.Path.{_≡_}
 use native.Mathlib.Omega.{arith}
 use borrow.Author.Needs.{needs}
 use lib.ListN.{length, drop}
 use Rattle.laws.specs.Lists.{sumOf}
-use Rattle.paper.specs.Words.{slice, dutyAt}
 use Rattle.paper.specs.Sa1.{slices}
 use Rattle.paper.specs.Bytes.{mostTicks}
 use Rattle.paper.specs.Builder.{dutiesOf}
 use Rattle.builder.proofs.Duties.{duties-length, total-left, total-none}
 use Rattle.builder.proofs.total_slices.Statement.{statement}
 use Rattle.builder.proofs.total_slices.Tie as tie
-use Rattle.builder.proofs.total_slices.Reads as reads
-use Rattle.builder.proofs.total_slices.Lts as lts
-use Rattle.builder.proofs.slice_at.Reads as slice-at-reads
 
 abbrev Inv-loop : tie.InvT-loop
 Inv-loop t services periods total₀ i₀ total i =
@@ -23,43 +21,38 @@ Inv-loop t services periods total₀ i₀ total i =
 abbrev μ-loop : tie.MeasureT-loop
 μ-loop t services periods total₀ i₀ total i = length services - i
 
--- src/lib.rt:104:5
 loop-holds : tie.Need-loop-holds Inv-loop μ-loop
 loop-holds c = search needs
 
--- src/lib.rt:105:18
 slice-at-requires : tie.Need-slice-at-requires Inv-loop μ-loop
 slice-at-requires c κs = (c .before .before .before .before .pre, search needs)
 
--- src/lib.rt:105:9
 add-total : tie.Need-add-total Inv-loop μ-loop
 add-total c = search needs
 
--- src/lib.rt:106:9
 add-i : tie.Need-add-i Inv-loop μ-loop
 add-i c = search needs
 
--- src/lib.rt:104:5
 loop-less : tie.Need-loop-less Inv-loop μ-loop
 loop-less c = search needs
 
--- src/lib.rt:104:5
 loop-again : tie.Need-loop-again Inv-loop μ-loop
 loop-again c =
-    let t = c .before .before .before .before .before .args .t in
-    let ss = c .before .before .before .before .before .args .services .now in
-    let ps = c .before .before .before .before .before .args .periods .now in
+    let args = c .before .before .before .before .before .args in
+    let t = args .t in
+    let ss = args .services .now in
+    let ps = args .periods .now in
     let ds = dutiesOf ss ps in
     let i = c .before .before .loop .i in
     let h : i < length ds = omega (arith, duties-length ss ps) in
     (search needs, search needs, omega (arith, total-left t ds i h))
 
--- src/lib.rt:98:1
 returns : tie.Need-returns Inv-loop μ-loop
 returns c =
-    let ss = c .before .before .before .before .args .services .now in
-    let ps = c .before .before .before .before .args .periods .now in
-    omega (arith, total-none (c .before .before .before .before .args .t) (dutiesOf ss ps) (c .before .loop .i) (omega (arith, duties-length ss ps)))
+    let args = c .before .before .before .before .args in
+    let ss = args .services .now in
+    let ps = args .periods .now in
+    omega (arith, total-none (args .t) (dutiesOf ss ps) (c .before .loop .i) (omega (arith, duties-length ss ps)))
 
 pub total-slices-spec : {M : Type 1} → statement M
 total-slices-spec =
