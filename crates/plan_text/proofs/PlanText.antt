@@ -2,7 +2,7 @@
 -- have room in 8,192 bytes. A number that is printed has at most 7 digits, so a line of n numbers has at most 8 n bytes after its word, and
 -- there are at most 64 duties, 128 runs and 32 chains.
 -- Assumes nothing.
-use Prim.Native.Nat.{ℕ, _-_, _≤_, _<_}
+use Prim.Native.Nat.{ℕ, _+_, _-_, _≤_, _<_}
 use mathlib.Core.Path.{_≡_, sym, subst, _∙_}
 use mathlib.Core.List.{List, [], _∷_, _++_, append-assoc}
 use native.Mathlib.Omega.{arith}
@@ -16,16 +16,16 @@ use Rattle.paper.specs.Words.{Table, run, dutyAt, runAt}
 use Rattle.paper.specs.Bytes.{small, mostTicks}
 use Rattle.paper.specs.Rotation.{link, firstOf, chainsBelow}
 use Rattle.paper.specs.Schedule.{loads}
-use Rattle.paper.specs.Statements.{Meets, DutyRanged, RunRanged}
+use Rattle.paper.specs.Statements.{DutyRanged, RunRanged}
 use Rattle.paper.specs.Text.{printLine, planWord, dutyWord, runWord, loadsWord, planLine, dutyLine, runLine, chainLine, loadsLine, planText}
 use Rattle.paper.proofs.Links.{closed, rows-end}
-use Rattle.paper.proofs.Loads.{later-is}
+use Rattle.paper.proofs.Loads.{later, later-is}
 use Rattle.paper.proofs.Starts.{laid, loads-runs, later-runs}
 use Rattle.form.specs.Formed.{Formed, tableOf}
 use Rattle.form.proofs.Table.{table-ticks, table-engines, table-duties, table-runs, table-ranged}
-use Rattle.rotation.specs.Readable.{Readable}
 use Rattle.rotation.specs.Edges.{linkOf, startsOf, endsOf, carriedOf}
 use Rattle.rotation.proofs.Linking.{link-read, carried-read}
+use Rattle.answers.specs.Ready.{Ready}
 use Rattle.print_lines.proofs.Line.{line-most}
 use Rattle.plan_text.specs.Parts.{dutyLines, runLines, chainLines, tableLines, rotationLines}
 
@@ -78,45 +78,30 @@ pub text-is : (t : Table) → tableLines t ++ rotationLines t ≡ planText t
 unfolding tableLines rotationLines planText
 text-is t = sym (append-assoc (planLine t ++ dutyLines t ++ runLines t) (chainLines t) (loadsLine t))
 
--- the runs of bytes in good form can be read
-pub readable : (b : List ℕ) (rd : Reading) → Formed b rd → Readable b rd
-readable b rd F =
-    record {
-      ticks-is = F .ticks;
-      engines-is = F .engines;
-      ticks-least = F .ticks-least;
-      ticks-most = F .ticks-most;
-      engines-least = F .engines-least;
-      engines-most = F .engines-most;
-      duties-least = F .duties-least;
-      duties-most = F .duties-most;
-      runs-most = F .runs-most;
-      room = omega (arith, F .long);
-      run-ranged = F .run-ranged;
-    }
-
-module _ (b : List ℕ) (rd : Reading) (F : Formed b rd) {starts ends : List ℕ} (p : starts ≡ startsOf (tableOf b rd)) (q : ends ≡ endsOf (tableOf b rd)) where
+module _ (b : List ℕ) (rd : Reading) (F : Formed b rd) (R : Ready b rd) {starts ends : List ℕ} (p : starts ≡ startsOf (tableOf b rd)) (q : ends ≡ endsOf (tableOf b rd)) where
   -- past the last row a chain would begin
   pub row-past : firstOf (linkOf starts ends) (rd .engines) ≡ rd .engines
   row-past =
-      rw (link-read (readable b rd F) p q)
-      (subst (λ m. firstOf (link (tableOf b rd)) m ≡ m) (table-engines b rd F) (rows-end (tableOf b rd) (closed small (tableOf b rd) (table-ranged b rd F))))
+      rw (link-read (R .readable) p q)
+      (subst (λ m. firstOf (link (tableOf b rd)) m ≡ m) (table-engines b rd F) (rows-end (tableOf b rd) (closed small (tableOf b rd) (R .ranged))))
 
   pub chains-are : flat chainLine (chainsBelow (linkOf starts ends) (rd .engines) (rd .engines)) ≡ chainLines (tableOf b rd)
-  chains-are = rw (link-read (readable b rd F) p q, table-engines b rd F)
+  chains-are = rw (link-read (R .readable) p q, table-engines b rd F)
 
-  module _ (M : Meets (tableOf b rd)) where
-    -- what is carried is not more than there are runs
-    pub carried-few : carriedOf starts ends (rd .engines) ≤ rd .runs
-    carried-few =
-        let t = tableOf b rd in
-        let g = table-ranged b rd F in
-        omega (arith, carried-read (readable b rd F) p q, later-runs t (closed small t g) (laid small t g M), table-runs b rd)
+  -- a later block has as many loads as there are runs, but for what is carried
+  later-are : later (tableOf b rd) + carriedOf starts ends (rd .engines) ≡ rd .runs
+  later-are =
+      let t = tableOf b rd in
+      omega (arith, carried-read (R .readable) p q, later-runs t (closed small t (R .ranged)) (laid small t (R .ranged) (R .meets)), table-runs b rd)
 
-    pub loads-are : (k : ℕ) → k ≡ carriedOf starts ends (rd .engines) → printLine loadsWord (rd .runs ∷ (rd .runs - k) ∷ []) ≡ loadsLine (tableOf b rd)
-    loads-are k e =
-        let t = tableOf b rd in
-        let g = table-ranged b rd F in
-        let one : loads t 1 ≡ rd .runs = loads-runs t (closed small t g) (laid small t g M) ∙ table-runs b rd in
-        let two : loads t 2 - loads t 1 ≡ rd .runs - k = omega (arith, later-is t (closed small t g), later-runs t (closed small t g) (laid small t g M), one, e, carried-read (readable b rd F) p q, table-runs b rd) in
-        rw (two, one)
+  -- what is carried is not more than there are runs
+  pub carried-few : carriedOf starts ends (rd .engines) ≤ rd .runs
+  carried-few = omega (arith, later-are)
+
+  pub loads-are : (k : ℕ) → k ≡ carriedOf starts ends (rd .engines) → printLine loadsWord (rd .runs ∷ (rd .runs - k) ∷ []) ≡ loadsLine (tableOf b rd)
+  loads-are k e =
+      let t = tableOf b rd in
+      let ends = closed small t (R .ranged) in
+      let one : loads t 1 ≡ rd .runs = loads-runs t ends (laid small t (R .ranged) (R .meets)) ∙ table-runs b rd in
+      let two : loads t 2 - loads t 1 ≡ rd .runs - k = omega (arith, later-is t ends, later-are, e) in
+      rw (two, one)

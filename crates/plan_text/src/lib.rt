@@ -9,11 +9,10 @@ ghost use Rattle.paper.specs.Text.{printLine, planWord, dutyWord, chainWord, lo
 ghost use Rattle.paper.specs.Outcome.{lengthOf, leaves};
 ghost use Rattle.paper.specs.Builder.{fitted};
 ghost use Rattle.paper.specs.Rotation.{firstOf, chainsBelow};
-ghost use Rattle.paper.specs.Statements.{Meets};
 ghost use Rattle.rotation.specs.Edges.{linkOf};
 ghost use Rattle.form.specs.Formed.{Formed, tableOf};
 ghost use Rattle.print_lines.specs.Puts.{Puts};
-ghost use Rattle.judge.specs.AcceptedAs.{AcceptedAs};
+ghost use Rattle.answers.specs.Ready.{Ready};
 ghost use Rattle.plan_text.specs.Told.{textAs};
 ghost use Rattle.plan_text.specs.Parts.{dutyLines, runLines, tableLines, rotationLines};
 use form::duty_of;
@@ -150,7 +149,7 @@ fn put_table(out: &mut [u8], b: &[u8], rd: Reading) -> usize
 // What follows from the table: chains and loads.
 fn put_rotation(out: &mut [u8], b: &[u8], rd: Reading) -> usize
     requires { ⌜ Formed (now b) rd ⌝ }
-    requires { ⌜ Meets (tableOf (now b) rd) ⌝ }
+    requires { ⌜ Ready (now b) rd ⌝ }
     requires { ⌜ 406 ≤ length (now out) ⌝ }
     ensures { λ r. ⌜ Puts (rotationLines (tableOf (now (b .entry)) rd)) (now (out .entry)) (now (out .exit)) r ⌝ }
     ensures { λ r. ⌜ r ≤ 406 ⌝ }
@@ -165,7 +164,7 @@ fn put_rotation(out: &mut [u8], b: &[u8], rd: Reading) -> usize
 // The text of a plan whose bytes are in good form and meet the rules.
 fn put_text(out: &mut [u8], b: &[u8], rd: Reading) -> usize
     requires { ⌜ Formed (now b) rd ⌝ }
-    requires { ⌜ Meets (tableOf (now b) rd) ⌝ }
+    requires { ⌜ Ready (now b) rd ⌝ }
     requires { ⌜ 8192 ≤ length (now out) ⌝ }
     ensures { λ r. ⌜ Puts (planText (tableOf (now (b .entry)) rd)) (now (out .entry)) (now (out .exit)) r ⌝ }
     ensures { λ r. ⌜ r ≤ 8192 ⌝ }
@@ -183,7 +182,8 @@ pub enum Text {
 // The text of an accepted table, if the buffer has the room. It is made apart, since a buffer that is too short keeps
 // its bytes.
 fn fit_text(out: &mut [u8], b: &[u8], rd: Reading) -> Text
-    requires { ⌜ AcceptedAs (now b) rd ⌝ }
+    requires { ⌜ Formed (now b) rd ⌝ }
+    requires { ⌜ Ready (now b) rd ⌝ }
     ensures { λ r. ⌜ textAs r ≡ lengthOf (fitted (length (now (out .entry))) (planText (tableOf (now (b .entry)) rd))) ⌝ }
     ensures { λ r. ⌜ now (out .exit) ≡ leaves (fitted (length (now (out .entry))) (planText (tableOf (now (b .entry)) rd))) (now (out .entry)) ⌝ }
 {

@@ -9,7 +9,7 @@ use Rattle.laws.specs.Lists.{over}
 use Rattle.paper.specs.Outcome.{answer}
 use Rattle.paper.specs.Text.{planText}
 use Rattle.form.specs.Formed.{tableOf}
-use Rattle.plan_text.proofs.Fitting.{fitted-short, fitted-room, front-is, reading-meets}
+use Rattle.plan_text.proofs.Fitting.{fitted-short, fitted-room, front-is}
 use borrow.Author.Needs.{needs}
 use Rattle.plan_text.proofs.fit_text.Statement.{statement}
 use Rattle.plan_text.proofs.fit_text.Tie as tie
@@ -18,7 +18,7 @@ slice-aggregate-put-text : tie.Need-slice-aggregate-put-text
 slice-aggregate-put-text c = search needs
 
 put-text-requires : tie.Need-put-text-requires
-put-text-requires c κs = (c .before .before .before .pre .formed, (reading-meets (c .before .before .before .pre), search needs))
+put-text-requires c κs = search needs
 
 returns : tie.Need-returns
 returns c =

@@ -5,11 +5,19 @@ use mathlib.Core.List.{List}
 use Prim.Native.Nat.{ℕ, _≤_}
 use native.Mathlib.Omega.{arith}
 use lib.ListN.{length}
-use Rattle.judge.proofs.Accepted.{accepted-as, refused-as}
-use Rattle.plan_text.proofs.Fitting.{text-accepted, text-refused}
+use Rattle.paper.specs.Words.{Table}
+use Rattle.paper.specs.Outcome.{Outcome, lengthOf, leaves}
+use Rattle.paper.specs.Builder.{fitted}
+use Rattle.paper.specs.Text.{planText, textFor}
+use Rattle.judge.proofs.Accepted.{accepted-as}
+use Rattle.answers.proofs.Judging.{ready, asked-accepted, asked-refused}
 use borrow.Author.Needs.{needs}
 use Rattle.plan_text.proofs.plan_text.Statement.{statement}
 use Rattle.plan_text.proofs.plan_text.Tie as tie
+
+-- what is asked of a table, for so much room
+abbrev asked : ℕ → Table → Outcome (List ℕ)
+asked room t = fitted room (planText t)
 
 judge-requires : tie.Need-judge-requires
 judge-requires c κs = search needs
@@ -18,7 +26,7 @@ enum-known-rd : tie.Need-enum-known-rd
 enum-known-rd c = search needs
 
 fit-text-requires : tie.Need-fit-text-requires
-fit-text-requires c κs = accepted-as _ _ _ (c .before .before .before .before .judge .ensures) (c .before .before .rd .given .1)
+fit-text-requires c κs = (accepted-as _ _ _ (c .before .before .before .before .judge .ensures) (c .before .before .rd .given .1) .formed, ready _ (c .before .before .before .before .judge .ensures) (c .before .before .rd .given .1))
 
 enum-known-fault : tie.Need-enum-known-fault
 enum-known-fault c = search needs
@@ -33,14 +41,20 @@ same-length : tie.Need-same-length
 same-length c = search needs
 
 returns : tie.Need-returns
+unfolding textFor
 returns c =
-    let e = text-accepted (c .before .before .before .before .before .before .before .before .before .before .args .table .now) (c .before .before .before .before .before .rd .given .0 .0) (length (c .before .before .before .before .before .before .before .before .before .before .args .out .now)) (accepted-as _ _ _ (c .before .before .before .before .before .before .before .judge .ensures) (c .before .before .before .before .before .rd .given .1)) in
-    (rw e (c .before .before .fit-text .ensures .0), rw e (c .before .before .fit-text .ensures .1))
+    let b = c .before .before .before .before .before .before .before .before .before .before .args .table .now in
+    let l = c .before .before .before .before .before .before .before .before .before .before .args .out .now in
+    let e = asked-accepted b (asked (length l)) (c .before .before .before .before .before .before .before .judge .ensures) (c .before .before .before .before .before .rd .given .1) in
+    (c .before .before .fit-text .ensures .0 ∙ ap lengthOf e, c .before .before .fit-text .ensures .1 ∙ ap (λ o. leaves o l) e)
 
 returns-2 : tie.Need-returns-2
+unfolding textFor
 returns-2 c =
-    let e = text-refused (c .before .before .before .before .before .before .before .before .args .table .now) (length (c .before .before .before .before .before .before .before .before .args .out .now)) _ _ (refused-as _ _ _ (c .before .before .before .before .before .judge .ensures) (c .before .before .before .fault .given .1)) in
-    (rw (e, c .before .number-of .ensures, c .place-of .ensures), rw e)
+    let b = c .before .before .before .before .before .before .before .before .args .table .now in
+    let l = c .before .before .before .before .before .before .before .before .args .out .now in
+    let e = asked-refused b (asked (length l)) (c .before .before .before .before .before .judge .ensures) (c .before .before .before .fault .given .1) (c .before .number-of .ensures) (c .place-of .ensures) in
+    (ap lengthOf e, ap (λ o. leaves o l) e)
 
 pub plan-text-spec : {M : Type 1} → statement M
 plan-text-spec =

@@ -17,7 +17,7 @@ edges-of-requires : tie.Need-edges-of-requires
 edges-of-requires c κs = search needs
 
 put-chains-requires : tie.Need-put-chains-requires
-put-chains-requires c κs = (search needs, row-past (c .before .before .before .before .before .before .before .before .args .b .now) (c .before .before .before .before .before .before .before .before .args .rd) (c .before .before .before .before .before .before .before .before .pre .0) (c .before .before .before .before .before .edges-of .ensures .0) (c .before .before .before .before .before .edges-of .ensures .1))
+put-chains-requires c κs = (search needs, row-past (c .before .before .before .before .before .before .before .before .args .b .now) (c .before .before .before .before .before .before .before .before .args .rd) (c .before .before .before .before .before .before .before .before .pre .0) (c .before .before .before .before .before .before .before .before .pre .1 .0) (c .before .before .before .before .before .edges-of .ensures .0) (c .before .before .before .before .before .edges-of .ensures .1))
 
 sub-put-loads : tie.Need-sub-put-loads
 sub-put-loads c = search needs
@@ -32,7 +32,7 @@ carried-requires : tie.Need-carried-requires
 carried-requires c κs = search needs
 
 put-loads-requires : tie.Need-put-loads-requires
-put-loads-requires c κs = (omega (arith, c .carried .ensures .0, carried-few (c .before .before .before .before .before .before .before .before .before .before .before .before .before .before .before .args .b .now) (c .before .before .before .before .before .before .before .before .before .before .before .before .before .before .before .args .rd) (c .before .before .before .before .before .before .before .before .before .before .before .before .before .before .before .pre .0) (c .before .before .before .before .before .before .before .before .before .before .before .before .edges-of .ensures .0) (c .before .before .before .before .before .before .before .before .before .before .before .before .edges-of .ensures .1) (c .before .before .before .before .before .before .before .before .before .before .before .before .before .before .before .pre .1 .0)), search needs, search needs)
+put-loads-requires c κs = (omega (arith, c .carried .ensures .0, carried-few (c .before .before .before .before .before .before .before .before .before .before .before .before .before .before .before .args .b .now) (c .before .before .before .before .before .before .before .before .before .before .before .before .before .before .before .args .rd) (c .before .before .before .before .before .before .before .before .before .before .before .before .before .before .before .pre .0) (c .before .before .before .before .before .before .before .before .before .before .before .before .before .before .before .pre .1 .0) (c .before .before .before .before .before .before .before .before .before .before .before .before .edges-of .ensures .0) (c .before .before .before .before .before .before .before .before .before .before .before .before .edges-of .ensures .1)), search needs, search needs)
 
 add-result : tie.Need-add-result
 add-result c = search needs
@@ -43,9 +43,9 @@ same-length c = search needs
 returns : tie.Need-returns
 unfolding rotationLines
 returns c =
-    let chains = renamed (chains-are (c .before .before .before .before .before .before .before .before .before .before .before .before .before .before .before .before .before .before .args .b .now) (c .before .before .before .before .before .before .before .before .before .before .before .before .before .before .before .before .before .before .args .rd) (c .before .before .before .before .before .before .before .before .before .before .before .before .before .before .before .before .before .before .pre .0) (c .before .before .before .before .before .before .before .before .before .before .before .before .before .before .before .edges-of .ensures .0) (c .before .before .before .before .before .before .before .before .before .before .before .before .before .before .before .edges-of .ensures .1)) (written _ _ _ _ (c .before .before .before .before .before .before .before .before .before .put-chains .ensures .0 .1) (c .before .before .before .before .before .before .before .before .before .put-chains .ensures .0 .0)) in
+    let chains = renamed (chains-are (c .before .before .before .before .before .before .before .before .before .before .before .before .before .before .before .before .before .before .args .b .now) (c .before .before .before .before .before .before .before .before .before .before .before .before .before .before .before .before .before .before .args .rd) (c .before .before .before .before .before .before .before .before .before .before .before .before .before .before .before .before .before .before .pre .0) (c .before .before .before .before .before .before .before .before .before .before .before .before .before .before .before .before .before .before .pre .1 .0) (c .before .before .before .before .before .before .before .before .before .before .before .before .before .before .before .edges-of .ensures .0) (c .before .before .before .before .before .before .before .before .before .before .before .before .before .before .before .edges-of .ensures .1)) (written _ _ _ _ (c .before .before .before .before .before .before .before .before .before .put-chains .ensures .0 .1) (c .before .before .before .before .before .before .before .before .before .put-chains .ensures .0 .0)) in
     let all = grown _ _ _ chains (c .before .before .put-loads .ensures .0 .0) (c .before .before .put-loads .ensures .0 .1) in
-    (all-written (renamed (ap (λ w. chainLines (tableOf (c .before .before .before .before .before .before .before .before .before .before .before .before .before .before .before .before .before .before .args .b .now) (c .before .before .before .before .before .before .before .before .before .before .before .before .before .before .before .before .before .before .args .rd)) ++ w) (loads-are (c .before .before .before .before .before .before .before .before .before .before .before .before .before .before .before .before .before .before .args .b .now) (c .before .before .before .before .before .before .before .before .before .before .before .before .before .before .before .before .before .before .args .rd) (c .before .before .before .before .before .before .before .before .before .before .before .before .before .before .before .before .before .before .pre .0) (c .before .before .before .before .before .before .before .before .before .before .before .before .before .before .before .edges-of .ensures .0) (c .before .before .before .before .before .before .before .before .before .before .before .before .before .before .before .edges-of .ensures .1) (c .before .before .before .before .before .before .before .before .before .before .before .before .before .before .before .before .before .before .pre .1 .0) _ (c .before .before .before .carried .ensures .0))) all), search needs)
+    (all-written (renamed (ap (λ w. chainLines (tableOf (c .before .before .before .before .before .before .before .before .before .before .before .before .before .before .before .before .before .before .args .b .now) (c .before .before .before .before .before .before .before .before .before .before .before .before .before .before .before .before .before .before .args .rd)) ++ w) (loads-are (c .before .before .before .before .before .before .before .before .before .before .before .before .before .before .before .before .before .before .args .b .now) (c .before .before .before .before .before .before .before .before .before .before .before .before .before .before .before .before .before .before .args .rd) (c .before .before .before .before .before .before .before .before .before .before .before .before .before .before .before .before .before .before .pre .0) (c .before .before .before .before .before .before .before .before .before .before .before .before .before .before .before .before .before .before .pre .1 .0) (c .before .before .before .before .before .before .before .before .before .before .before .before .before .before .before .edges-of .ensures .0) (c .before .before .before .before .before .before .before .before .before .before .before .before .before .before .before .edges-of .ensures .1) _ (c .before .before .before .carried .ensures .0))) all), search needs)
 
 pub put-rotation-spec : {M : Type 1} → statement M
 put-rotation-spec =
