@@ -76,3 +76,34 @@ taken-told b = by-cases (ltb mostInput (length b)) (λ p. rw p) (λ p. rw p (tol
 -- equal answers are of bytes that mean the same
 pub taken-one : (a b : List ℕ) → asTaken (input a) ≡ asTaken (input b) → input a ≡ input b
 taken-one a b e = sym (taken-told a) ∙ ap told e ∙ taken-told b
+
+-- ---- at most 64 duties are read
+
+abbrev Few : Outcome Input → Type 0
+Few (refused n p) = Unit
+Few (answer i) = length (i .duties) ≤ 64
+
+few-with : (e : ℕ) (o : Outcome (List Duty)) → Told 64 o → Few (withEngines e o)
+few-with e (refused n p) t = tt
+few-with e (answer ds) t = t
+
+few-either : (t : Bool) (o : Outcome Input) (p : ℕ) → Few o → Few (pick t o (refused 9 p))
+few-either true o p f = f
+few-either false o p f = tt
+
+few-lines : (ls : Lines) → Few (inputOf ls)
+unfolding inputOf
+few-lines none = tt
+few-lines (line c ended ls) =
+    few-either (ended && engineLineGood c) (withEngines (enginesRead c) (dutiesFrom 2 ls)) 1 (few-with (enginesRead c) (dutiesFrom 2 ls) (told-from 2 ls))
+
+few-input : (b : List ℕ) → Few (input b)
+unfolding input
+few-input b = by-cases (ltb mostInput (length b)) (λ p. rw p tt) (λ p. rw p (few-lines (linesOf b)))
+
+few-taken : (o : Outcome Input) → Few o → asTaken o .input .duties ≤ 64
+few-taken (refused n p) f = omega arith
+few-taken (answer i) f = f
+
+pub taken-few : (b : List ℕ) → asTaken (input b) .input .duties ≤ 64
+taken-few b = few-taken (input b) (few-input b)
