@@ -278,8 +278,8 @@ fn loads_in(b: &[u8], rd: Reading, blocks: u64) -> u64
     let e = edges_of(b, rd);
     let starts = e.starts;
     let ends = e.ends;
-    let kept = carried(&starts, &ends, rd.engines);
-    over_blocks(blocks, rd.runs as u64, kept as u64)
+    let kept = carried(&starts, &ends, rd.engines) as u64;
+    over_blocks(blocks, rd.runs as u64, kept)
 }
 
 // The count of an accepted table, or that there are too many blocks.

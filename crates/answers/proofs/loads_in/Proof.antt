@@ -17,11 +17,11 @@ edges-of-requires c κs = search needs
 carried-requires : tie.Need-carried-requires
 carried-requires c κs = search needs
 
+cast-kept : tie.Need-cast-kept
+cast-kept c = search needs
+
 cast-over-blocks : tie.Need-cast-over-blocks
 cast-over-blocks c = search needs
-
-cast-over-blocks-2 : tie.Need-cast-over-blocks-2
-cast-over-blocks-2 c = search needs
 
 over-blocks-requires : tie.Need-over-blocks-requires
 over-blocks-requires c κs =
@@ -45,7 +45,7 @@ loads-in-spec =
     returns
     edges-of-requires
     carried-requires
+    cast-kept
     cast-over-blocks
-    cast-over-blocks-2
     over-blocks-requires
     returns-2)
