@@ -105,6 +105,7 @@ pub struct Dispatcher {
     pub rows: [u32; 32],
 }
 
+// Whether a dispatcher has a state to hand back; else the refusal's number and place.
 pub enum Verdict {
     Done,
     Refused(u32, usize),
