@@ -4,14 +4,15 @@ ghost use mathlib.Core.Path.{_≡_};
 ghost use Prim.Native.Nat.{_+_, _-_, _*_, _≤_};
 ghost use Rattle.laws.specs.Lists.{same-list};
 ghost use Rattle.paper.specs.Schedule.{loads};
-ghost use Rattle.paper.specs.Outcome.{answer, refused, faultNumber, faultPlace};
+ghost use Rattle.paper.specs.Outcome.{answer, refused};
 ghost use Rattle.paper.specs.Answers.{question, start, advanced, rowTold, counted, rowsAt, stateAt, mostBlocks};
 ghost use Rattle.rotation.specs.Readable.{tableOf};
 ghost use Rattle.answers.specs.Ready.{Ready};
 ghost use Rattle.answers.specs.Told.{answerAs, stateAs, handed, dispatchedAs, rowAs, countAs, replyOf, rowBy, nextState, countOf};
 use judge::judge;
+use judge::number_of;
+use judge::place_of;
 use paper::Engine;
-use paper::Fault;
 use paper::Held;
 use paper::Judged;
 use paper::Reading;
@@ -29,38 +30,6 @@ const MOST_BLOCKS: u64 = 1000000000000;
 const LAST_BLOCK: u64 = 18446744073709551615;
 
 // ---- the judge's faults
-
-// A fault's number.
-fn number_of(fault: Fault) -> u32
-    ensures { λ r. ⌜ r ≡ faultNumber fault ⌝ }
-{
-    match fault {
-        Fault::Form(_) => 10,
-        Fault::BlockLength => 11,
-        Fault::Slice(_) => 12,
-        Fault::Order(_) => 13,
-        Fault::Overlap(_) => 14,
-        Fault::Joint(_) => 15,
-        Fault::Twice(_) => 16,
-        Fault::Service(_) => 17,
-    }
-}
-
-// A fault's place: an offset, a duty or a run.
-fn place_of(fault: Fault) -> usize
-    ensures { λ r. ⌜ r ≡ faultPlace fault ⌝ }
-{
-    match fault {
-        Fault::Form(at) => at,
-        Fault::BlockLength => 0,
-        Fault::Slice(d) => d,
-        Fault::Order(k) => k,
-        Fault::Overlap(k) => k,
-        Fault::Joint(k) => k,
-        Fault::Twice(k) => k,
-        Fault::Service(d) => d,
-    }
-}
 
 // ---- the direct question
 

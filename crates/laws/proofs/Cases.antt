@@ -29,3 +29,12 @@ both-true false b p = not-both p refl
 pub eqb-sym : (i j : ℕ) → eqb i j ≡ eqb j i
 eqb-sym i j =
     by-cases (eqb i j) (λ p. p ∙ sym (eq-eqb j i (sym (eqb-true i j p)))) (λ p. p ∙ sym (ne-eqb j i (λ q. eqb-false i j p (sym q))))
+
+-- a test together with one that holds, or with one that fails
+pub and-yes : (b : Bool) → b && true ≡ b
+and-yes true = refl
+and-yes false = refl
+
+pub and-no : (b : Bool) → b && false ≡ false
+and-no true = refl
+and-no false = refl

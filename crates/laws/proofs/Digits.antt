@@ -1,14 +1,15 @@
 -- Numbers as bytes and back. The k bytes of a number below 256^k read as that number, wherever they stand, and the number
 -- in k bytes has those bytes: each step splits off the lowest byte by the remainder and the quotient by 256.
 -- Assumes nothing.
-use Prim.Native.Nat.{ℕ, zero, suc, _+_, _*_, _/_, _%_, _^_, _≤_, _<_}
-use mathlib.Core.Path.{_≡_, refl, sym, ap, _∙_}
+use Prim.Native.Nat.{ℕ, zero, suc, _+_, _*_, _-_, _/_, _%_, _^_, _≤_, _<_}
+use mathlib.Core.Path.{_≡_, refl, ap, _∙_}
 use mathlib.Core.List.{List, [], _∷_, _++_}
-use native.Mathlib.Nat.{add-zero, add-assoc, pow-suc, mod-lt, mod-eq-of-lt, div-eq-of-lt, div-add-mod, div-lt-iff-lt-mul, add-mul-mod-self-left, add-mul-div-left, mul-le-mul-left}
+use native.Mathlib.Nat.{not-suc-le-zero, le-of-suc-le-suc, add-assoc, pow-suc, mod-lt, mod-eq-of-lt, div-lt-iff-lt-mul, add-mul-mod-self-left}
 use native.Mathlib.Numerals.{add-one}
 use native.Mathlib.Omega.{arith}
 use lib.ListN.{length, getD, take, drop, List·getD-eq-default, List·getD-append}
 use lib.Seq.{getD-append-add, drop-cons}
+use Rattle.laws.specs.Lists.{flat}
 use Rattle.laws.specs.Digits.{digits, numAt}
 use Rattle.laws.proofs.Cases.{lt-or-le}
 
@@ -20,6 +21,7 @@ AreBytes b = (k : ℕ) → k < length b → getD b k 0 < 256
 pub byte-below : (b : List ℕ) → AreBytes b → (k : ℕ) → getD b k 0 < 256
 byte-below b h k = lt-or-le k (length b) (h k) (λ l. rw (List·getD-eq-default b 0 l) (omega arith))
 
+-- a number has as many bytes as asked for
 pub length-digits : (k v : ℕ) → length (digits k v) ≡ k
 unfolding digits
 length-digits zero v = refl
@@ -28,14 +30,9 @@ length-digits (suc k) v = ap suc (length-digits k (v / 256))
 -- what is written are bytes
 pub digits-bytes : (k v : ℕ) → AreBytes (digits k v)
 unfolding digits
-digits-bytes zero v j h = absurd (native.Mathlib.Nat.not-suc-le-zero h)
+digits-bytes zero v j h = absurd (not-suc-le-zero h)
 digits-bytes (suc k) v zero h = mod-lt v {m = 256} (omega arith)
-digits-bytes (suc k) v (suc j) h = digits-bytes k (v / 256) j (native.Mathlib.Nat.le-of-suc-le-suc h)
-
--- a field of one byte is that byte
-pub numAt-one : (b : List ℕ) (at : ℕ) → numAt 1 b at ≡ getD b at 0
-unfolding numAt
-numAt-one b at = omega arith
+digits-bytes (suc k) v (suc j) h = digits-bytes k (v / 256) j (le-of-suc-le-suc h)
 
 -- a field is read the same where something stands before ..
 pub numAt-after : (k : ℕ) (pre b : List ℕ) (at : ℕ) → numAt k (pre ++ b) (length pre + at) ≡ numAt k b at
@@ -71,3 +68,24 @@ digits-numAt (suc k) b at h l =
     let low : (getD b at 0 + 256 * numAt k b (at + 1)) % 256 ≡ getD b at 0 = add-mul-mod-self-left (getD b at 0) 256 (numAt k b (at + 1)) ∙ mod-eq-of-lt (byte-below b h at) in
     let high : (getD b at 0 + 256 * numAt k b (at + 1)) / 256 ≡ numAt k b (at + 1) = omega (arith, byte-below b h at) in
     rw (drop-cons b at 0 (omega arith), low, high, digits-numAt k b (at + 1) h (omega arith), add-one)
+
+-- ---- lists made of bytes
+
+-- two lists of bytes one after the other are one
+pub bytes-append : (p q : List ℕ) → AreBytes p → AreBytes q → AreBytes (p ++ q)
+bytes-append p q y z k h =
+    lt-or-le k (length p) (λ l. rw (List·getD-append p q 0 k l) (y k l))
+    (λ l.
+    let e : k ≡ length p + (k - length p) = omega arith in
+    rw (e, getD-append-add p q (k - length p) 0) (byte-below q z (k - length p)))
+
+-- a byte before a list of bytes
+pub bytes-cons : (x : ℕ) (p : List ℕ) → x < 256 → AreBytes p → AreBytes (x ∷ p)
+bytes-cons x p h y zero l = h
+bytes-cons x p h y (suc k) l = y k (le-of-suc-le-suc l)
+
+-- records of bytes one after the other
+pub bytes-flat : {A : Type 0} (f : A → List ℕ) → ((x : A) → AreBytes (f x)) → (xs : List A) → AreBytes (flat f xs)
+unfolding flat
+bytes-flat f y [] = λ k h. absurd (not-suc-le-zero h)
+bytes-flat f y (x ∷ xs) = bytes-append (f x) (flat f xs) (y x) (bytes-flat f y xs)

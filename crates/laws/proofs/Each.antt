@@ -6,11 +6,7 @@ use mathlib.Core.List.{List, [], _∷_, map}
 use native.Mathlib.Nat.{not-suc-le-zero, le-of-suc-le-suc}
 use native.Mathlib.Omega.{arith}
 use lib.ListN.{length, getD}
-
--- every entry has P
-abbrev pub Each : {A : Type 0} → (A → Type 0) → List A → Type 0
-Each P [] = Unit
-Each P (x ∷ xs) = P x × Each P xs
+pub use Rattle.laws.specs.Lists.{Each}
 
 -- every entry is in R to each later one
 abbrev pub Pairs : {A : Type 0} → (A → A → Type 0) → List A → Type 0

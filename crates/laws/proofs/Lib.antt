@@ -4,7 +4,9 @@ pub mod Sum
 pub mod Divisor
 pub mod Lists
 pub mod Writing
+pub mod Listing
 pub mod Fields
 pub mod Each
 pub mod Digits
 pub mod Parts
+pub mod Decides

@@ -163,3 +163,25 @@ filled-part f g n m l F e z =
     at k h =
         by-cases (lib.Dec.ltb k m) (λ p. let p′ = borrow.Author.Tests.ltb-true k m p in F .done k p′ ∙ e k p′)
         (λ p. let p′ = borrow.Author.Tests.ltb-false k m p in F .rest k p′ h ∙ sym (z k p′))
+
+-- ---- a store into a table
+
+-- a table with one entry stored is the table of a function that differs there alone
+pub set-tab : (n i v : ℕ) (f g : ℕ → ℕ) → i < n → v ≡ g i → ((k : ℕ) → (k ≡ i → ⊥) → f k ≡ g k) → set (tab n f) i v ≡ tab n g
+set-tab n i v f g h e o =
+    ext-getD 0 (set (tab n f) i v) (tab n g) (lib.ListN.length-set (tab n f) i v ∙ length-tab n f ∙ sym (length-tab n g))
+    (λ k l. let m : k < n = rw (lib.ListN.length-set, length-tab) at l in at k m ∙ sym (getD-tab n g 0 k m))
+  where
+    at : (k : ℕ) → k < n → getD (set (tab n f) i v) k 0 ≡ g k
+    at k m =
+        by-cases (eqb k i)
+        (λ q. let p = eqb-true k i q in rw p (getD-set-same (tab n f) i v 0 (rw length-tab h) ∙ e))
+        (λ q. let p = borrow.Author.Tests.eqb-false k i q in getD-set-other (tab n f) i k v 0 p ∙ getD-tab n f 0 k m ∙ o k p)
+
+-- ---- what is left of `flat` at an index, and at the end
+
+pub flat-left : {A B : Type 0} (f : A → List B) (d : A) (l : List A) (k : ℕ) → k < length l → flat f (drop k l) ≡ f (getD l k d) ++ flat f (drop (k + 1) l)
+flat-left f d l k h = rw (add-one, drop-cons l k d) (flat-step f (getD l k d) (drop (suc k) l))
+
+pub flat-none : {A B : Type 0} (f : A → List B) (l : List A) (k : ℕ) → length l ≤ k → flat f (drop k l) ≡ []
+flat-none f l k h = rw (drop-of-length-le l h) (flat-end f)

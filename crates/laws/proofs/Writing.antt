@@ -4,6 +4,7 @@
 use Prim.Native.Nat.{ℕ, zero, suc, _+_, _-_, _≤_, _<_}
 use mathlib.Core.Path.{_≡_, refl, sym, ap, _∙_}
 use mathlib.Core.List.{List, [], _∷_, _++_, append-assoc, append-nil}
+use native.Mathlib.Nat.{add-zero}
 use native.Mathlib.Numerals.{add-one}
 use native.Mathlib.Omega.{arith}
 use lib.ListN.{length, getD, take, drop, set, length-append, length-drop, length-take, drop-of-length-le}
@@ -92,3 +93,36 @@ room {W} {l} {rest} {xs} {a} r = ap (λ (n : ℕ). n + length rest) (sym (r .len
 -- the rest by another name
 pub next : {W l rest rest′ xs : List ℕ} {a : ℕ} → rest ≡ rest′ → Wrote W l rest xs a → Wrote W l rest′ xs a
 next {W} {l} {rest} {rest′} {xs} {a} e r = record { w = r .w; len = r .len; is = r .is; left = ap (λ (t : List ℕ). r .w ++ t) (sym e) ∙ r .left }
+
+-- the place by another name
+pub moved : {W l rest xs : List ℕ} {a b : ℕ} → a ≡ b → Wrote W l rest xs a → Wrote W l rest xs b
+moved {W} {l} {rest} {xs} {a} {b} e r = record { w = r .w; len = r .len ∙ e; is = r .is; left = r .left }
+
+-- what is lent from the place a on, to the end
+pub length-lent : (a : ℕ) (xs : List ℕ) → length (take (length xs - a) (drop a xs)) ≡ length xs - a
+length-lent a xs = simp (length-take, length-drop) (omega arith)
+
+-- after a first call that was lent the whole buffer
+pub begun : (l rest p ys : List ℕ) → ys ≡ over p l → Wrote (p ++ rest) l rest ys (length p)
+begun l rest p ys e = record { w = p; len = refl; is = e; left = refl }
+
+-- ---- a text that grows: all of W is written, and a part is written behind it
+
+pub written : (W l xs : List ℕ) (n : ℕ) → xs ≡ over W l → n ≡ length W → Wrote W l [] xs n
+written W l xs n e p = record { w = W; len = sym p; is = e; left = append-nil W }
+
+-- after a call that was lent the buffer from a on, wrote p there and answered its length n
+pub grown : {W l xs : List ℕ} {a : ℕ} (p ys : List ℕ) (n : ℕ) → Wrote W l [] xs a → n ≡ length p → ys ≡ over p (take (length xs - a) (drop a xs))
+    → Wrote (W ++ p) l [] (take a xs ++ (ys ++ drop (length xs - a) (drop a xs))) (a + n)
+grown {W} {l} {xs} {a} p ys n r e q =
+    let all : r .w ≡ W = sym (append-nil (r .w)) ∙ r .left in
+    let before : Wrote (W ++ p) l (p ++ []) xs a = record { w = r .w; len = r .len; is = r .is; left = rw (append-nil p, all) } in
+    moved (ap (λ k. a + k) (sym e)) (more (W ++ p) l [] xs p ys a before q)
+
+-- with nothing left, the place is the length and the text stands over the front
+pub all-written : {W l xs : List ℕ} {a : ℕ} → Wrote W l [] xs a → (a ≡ length W) × (xs ≡ over W l)
+all-written {W} {l} {xs} {a} r = (sym (add-zero a) ∙ room r, done W l xs a r)
+
+-- the text by another name
+pub renamed : {W W′ l rest xs : List ℕ} {a : ℕ} → W ≡ W′ → Wrote W l rest xs a → Wrote W′ l rest xs a
+renamed {W} {W′} {l} {rest} {xs} {a} e r = record { w = r .w; len = r .len; is = r .is; left = r .left ∙ e }

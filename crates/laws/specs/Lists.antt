@@ -30,3 +30,8 @@ same-list (x ∷ xs) (y ∷ ys) = eqb x y && same-list xs ys
 -- the buffer l with a written over its front
 unfoldable pub over : {A : Type 0} → List A → List A → List A
 over a l = a ++ drop (length a) l
+
+-- every entry has P
+abbrev pub Each : {A : Type 0} → (A → Type 0) → List A → Type 0
+Each P [] = Unit
+Each P (x ∷ xs) = P x × Each P xs

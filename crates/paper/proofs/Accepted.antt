@@ -1,30 +1,24 @@
 -- A table is accepted exactly when it meets the plain statements of rules 11 to 17: the judge goes down the rules, so its answer is the
 -- table only if no rule's test finds a place, and then every rule's statement holds; and the converse.
 -- Assumes nothing.
-use Prim.Native.Nat.{ℕ, _+_, _*_, _≤_, _<_, _∣_}
-use mathlib.Core.Path.{_≡_, refl, sym, ap, _∙_}
+use Prim.Native.Nat.{ℕ, _*_, _≤_, _<_, _∣_}
+use mathlib.Core.Path.{_≡_, refl, ap}
 use mathlib.Core.Bool.{Bool, true, false, not}
-use mathlib.Core.List.{List, [], _∷_, map}
+use mathlib.Core.List.{List, map}
 use mathlib.Core.Logic.{_↔_}
 use native.Mathlib.Omega.{arith}
 use lib.Dec.{ltb, eqb}
-use lib.ListN.{length, getD, length-map, List·getD-map}
+use lib.ListN.{length, length-map, List·getD-map}
 use borrow.Author.Tests.{eqb-true, eq-eqb, not-false}
 use Rattle.laws.specs.Choice.{pick}
-use Rattle.laws.specs.Search.{first, any}
-use Rattle.laws.specs.Lists.{tab, flat}
-use Rattle.laws.specs.Digits.{digits, numAt}
-use Rattle.laws.specs.Divisor.{gcdOf, gcd, euclid}
 use Rattle.laws.proofs.Search.{none-clear, clear-none}
 use Rattle.laws.proofs.Divisor.{gcdOf-divides}
 use Rattle.paper.specs.declared.Duty.{Duty}
-use Rattle.paper.specs.declared.Run.{Run}
-use Rattle.paper.specs.Words.{duty, run, slice, blockLengthOf, whole, dutyAt, runAt, Table}
+use Rattle.paper.specs.Words.{duty, slice, blockLengthOf, whole, dutyAt, runAt, Table}
 use Rattle.paper.specs.Outcome.{Outcome, refused, answer, andThen}
-use Rattle.paper.specs.Sa1.{sa1, lay, layOne, rowAfter, unitAfter}
-use Rattle.paper.specs.Bytes.{Width, small, parse, afterHead, afterRuns, headGood, dutyGood, runGood, endGood, badDuty, goodRuns, tableIn, stands, dutyIn, runIn, encode, headBytes, dutyBytes, runBytes, endBytes}
+use Rattle.paper.specs.Bytes.{Width, small, parse}
 use Rattle.paper.specs.Builder.{badSlice}
-use Rattle.paper.specs.Rules.{before, meet, unordered, overlaps, joins, twice, lowest, unitsOf, badSum, badOrder, judgeRuns, judgeTable, accepted}
+use Rattle.paper.specs.Rules.{unordered, overlaps, joins, twice, lowest, unitsOf, badSum, badOrder, judgeRuns, judgeTable, accepted}
 use Rattle.paper.specs.Statements.{Ranged, Meets}
 use Rattle.paper.proofs.Rules.{InOrder, ordered-clear, clear-ordered, lowest-none, none-lowest, overlaps-apart, apart-overlaps, joins-any, not-joins, twice-apart, apart-twice, whole-divides, divides-whole}
 
@@ -163,31 +157,14 @@ read-accepted b t p q = rw p q
 
 -- ---- the block length
 
--- T divides every period. What is proved of accepted tables uses this alone of rule 11
-pub ticks-divides : (t : Table) → Meets t → (i : ℕ) → i < length (t .duties) → t .ticks ∣ dutyAt (t .duties) i .period
+-- it divides every period
+pub block-divides : (ds : List Duty) (i : ℕ) → i < length ds → blockLengthOf ds ∣ dutyAt ds i .period
 unfolding blockLengthOf
-ticks-divides t m i h =
-    let ps = map (λ (x : Duty). x .period) (t .duties) in
-    let d = gcdOf-divides ps i (rw (length-map (t .duties) (λ (x : Duty). x .period)) h) in
-    rw (m .block-length) (rw (List·getD-map (λ (x : Duty). x .period) (t .duties) i (duty 0 0)) at d)
+block-divides ds i h =
+    let ps = map (λ (x : Duty). x .period) ds in
+    let d = gcdOf-divides ps i (rw (length-map ds (λ (x : Duty). x .period)) h) in
+    rw (List·getD-map (λ (x : Duty). x .period) ds i (duty 0 0)) at d
 
--- ---- a table that SA1 does not write
-
--- two duties on two rows of three with idle gaps, duty 0 in three pieces and duty 1 in two
-pub byHand : Table
-byHand =
-    record {
-      ticks = 6;
-      engines = 3;
-      duties = duty 3 6 ∷ duty 4 12 ∷ [];
-      runs = run 0 0 1 1 ∷ run 0 1 3 1 ∷ run 2 0 0 1 ∷ run 2 1 2 1 ∷ run 2 0 4 1 ∷ [];
-    }
-
-pub byHand-accepted : accepted (encode small byHand) ≡ answer byHand
-unfolding byHand accepted parse afterHead afterRuns headGood dutyGood runGood endGood badDuty goodRuns tableIn stands dutyIn runIn numAt tab encode headBytes dutyBytes runBytes endBytes flat digits judgeTable judgeRuns badOrder badSum lowest overlaps joins twice meet before unordered unitsOf whole slice badSlice blockLengthOf gcdOf gcd euclid first
-byHand-accepted = refl
-
--- SA1 gives these duties one run each
-pub byHand-own : byHand ≡ sa1 6 3 (byHand .duties) → ⊥
-unfolding byHand sa1 lay layOne rowAfter unitAfter slice
-byHand-own e = let z : _≡_ {A = ℕ} 5 2 = ap (λ (t : Table). length (t .runs)) e in omega arith
+-- so T does. What is proved of accepted tables uses this alone of rule 11
+pub ticks-divides : (t : Table) → Meets t → (i : ℕ) → i < length (t .duties) → t .ticks ∣ dutyAt (t .duties) i .period
+ticks-divides t m i h = rw (m .block-length) (block-divides (t .duties) i h)

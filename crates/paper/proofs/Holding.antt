@@ -8,10 +8,12 @@ use mathlib.Core.List.{List, [], _∷_}
 use native.Mathlib.Nat.{not-suc-le-zero, le-of-suc-le-suc}
 use native.Mathlib.Numerals.{add-one}
 use native.Mathlib.Omega.{arith}
-use lib.Dec.{leb, ltb, eqb}
+use lib.Dec.{leb, ltb, eqb, leb·suc-suc}
 use lib.ListN.{length, drop, drop-of-length-le}
 use lib.Seq.{drop-cons}
 use borrow.Author.Tests.{eqb-true, leb-true, ltb-true, eq-eqb, le-leb, lt-ltb}
+use Rattle.laws.specs.Choice.{pick}
+use Rattle.laws.specs.Search.{first}
 use Rattle.laws.proofs.Cases.{by-cases, lt-or-le, not-both, both-true, eqb-sym}
 use Rattle.paper.specs.declared.Row.{Row}
 use Rattle.paper.specs.declared.Run.{Run}
@@ -36,11 +38,11 @@ unfolding covers
 has-covers x r u e h = rw (eq-eqb (x .row .0) (r .0) e, le-leb (x .first) u (h .0), lt-ltb u (stop x) (h .1))
 
 -- one step of the search for the run
-held-yes : (x : Run) (xs : List Run) (r : Row) (u : ℕ) → covers x r u ≡ true → heldIn (x ∷ xs) r u ≡ By (x .duty)
+pub held-yes : (x : Run) (xs : List Run) (r : Row) (u : ℕ) → covers x r u ≡ true → heldIn (x ∷ xs) r u ≡ By (x .duty)
 unfolding heldIn
 held-yes x xs r u p = rw p
 
-held-no : (x : Run) (xs : List Run) (r : Row) (u : ℕ) → covers x r u ≡ false → heldIn (x ∷ xs) r u ≡ heldIn xs r u
+pub held-no : (x : Run) (xs : List Run) (r : Row) (u : ℕ) → covers x r u ≡ false → heldIn (x ∷ xs) r u ≡ heldIn xs r u
 unfolding heldIn
 held-no x xs r u p = rw p
 
@@ -115,3 +117,31 @@ held-from-no xs r u k h p = rw (add-one k, drop-cons xs k (run 0 0 0 0) h) (held
 pub held-from-end : (xs : List Run) (r : Row) (u k : ℕ) → length xs ≤ k → heldIn (drop k xs) r u ≡ Idle
 unfolding heldIn
 held-from-end xs r u k h = rw (drop-of-length-le xs h)
+
+-- ---- the run that is found, by its index
+
+-- "stops at the first that does": the duty of the least run that covers the unit
+pub held-by-search : (xs : List Run) (r : Row) (u : ℕ) → heldIn xs r u ≡ pick (ltb (first (λ j. covers (runAt xs j) r u) (length xs)) (length xs)) (By (runAt xs (first (λ j. covers (runAt xs j) r u) (length xs)) .duty)) Idle
+unfolding heldIn first
+held-by-search [] r u = refl
+held-by-search (x ∷ xs) r u =
+    by-cases (covers x r u) (λ h. rw (h, first, lt-ltb 0 (suc (length xs)) (omega arith)))
+    (λ h. rw (h, first, leb·suc-suc (suc (first (λ j. covers (runAt xs j) r u) (length xs))) (length xs)) (held-by-search xs r u))
+
+-- where no run covers it the unit is idle, and the converse
+pub held-idle : (xs : List Run) (r : Row) (u : ℕ) → ((k : ℕ) → k < length xs → covers (runAt xs k) r u ≡ false) → heldIn xs r u ≡ Idle
+held-idle xs r u n = held-cases xs r u (λ e h. e) (λ k c e. not-both (c .covering) (n k (c .below)))
+
+pub idle-clear : (xs : List Run) (r : Row) (u : ℕ) → heldIn xs r u ≡ Idle → (k : ℕ) → k < length xs → covers (runAt xs k) r u ≡ false
+idle-clear xs r u h k l =
+    by-cases (covers (runAt xs k) r u) (λ p. held-cases xs r u (λ e n. absurd (n k (record { below = l; covering = p }))) (λ j c e. (cc))) (λ p. p)
+
+-- where a duty holds it one of the duty's runs covers it
+pub held-some : (xs : List Run) (r : Row) (u i : ℕ) → heldIn xs r u ≡ By i → (k : ℕ) × Covering xs r u k × (runAt xs k .duty ≡ i)
+held-some xs r u i h = held-cases xs r u (λ e n. absurd (not-idle (sym e ∙ h))) (λ k c e. (k, c, same-duty (sym e ∙ h)))
+  where
+    not-idle : Idle ≡ By i → ⊥
+    not-idle e = let z : _≡_ {A = ℕ} 0 1 = cc in omega arith
+
+    same-duty : {a b : ℕ} → By a ≡ By b → a ≡ b
+    same-duty e = cc

@@ -3,25 +3,22 @@
 -- so a run of the same row that stops where this one starts is an earlier one.
 -- Assumes nothing.
 use Prim.Native.Nat.{ℕ, zero, suc, _+_, _*_, _-_, _%_, _≤_, _<_, _∣_}
-use mathlib.Core.Path.{_≡_, refl, sym, ap, _∙_}
-use mathlib.Core.Bool.{Bool, true, false, not, _&&_, true≢false}
-use mathlib.Core.List.{List, [], _∷_}
-use native.Mathlib.Nat.{not-suc-le-zero, dvd-of-mod-eq-zero, mod-eq-zero-of-dvd}
-use native.Mathlib.Numerals.{add-one}
+use mathlib.Core.Path.{_≡_, refl, sym, ap}
+use mathlib.Core.Bool.{Bool, true, false}
+use mathlib.Core.List.{List}
+use native.Mathlib.Nat.{dvd-of-mod-eq-zero, mod-eq-zero-of-dvd}
 use native.Mathlib.Omega.{arith}
-use lib.Dec.{leb, ltb, eqb}
+use lib.Dec.{ltb, eqb}
 use lib.ListN.{length}
-use borrow.Author.Tests.{ltb-true, ltb-false, lt-ltb, le-ltb, eqb-true, eqb-false, eq-eqb, ne-eqb, not-true, not-false}
-use Rattle.laws.specs.Choice.{pick}
+use borrow.Author.Tests.{ltb-true, lt-ltb, eqb-true, eqb-false, eq-eqb, ne-eqb, not-false}
 use Rattle.laws.specs.Search.{first, any}
-use Rattle.laws.proofs.Cases.{by-cases, lt-or-le}
+use Rattle.laws.proofs.Cases.{by-cases, lt-or-le, not-both}
 use Rattle.laws.proofs.Search.{Clear, none-clear, clear-none}
 use Rattle.laws.proofs.Lists.{and-left, and-right}
 use Rattle.paper.specs.declared.Duty.{Duty}
 use Rattle.paper.specs.declared.Run.{Run}
-use Rattle.paper.specs.Words.{stop, slice, dutyAt, runAt, whole, Table}
-use Rattle.paper.specs.Builder.{badSlice}
-use Rattle.paper.specs.Rules.{before, meet, unordered, overlaps, joins, twice, lowest, unitsOf, badSum, badOrder}
+use Rattle.paper.specs.Words.{stop, runAt, whole}
+use Rattle.paper.specs.Rules.{before, meet, unordered, overlaps, joins, twice, lowest}
 use Rattle.paper.specs.Statements.{Has, Apart}
 
 -- ---- order
@@ -91,7 +88,7 @@ meet-shares x y lx ly h =
 
 -- so the test fails exactly when they share none
 pub meet-apart : (x y : Run) → meet x y ≡ false → Apart x y
-meet-apart x y h u p q = true≢false (sym (shares-meet x y u p q) ∙ h)
+meet-apart x y h u p q = not-both (shares-meet x y u p q) h
 
 pub apart-meet : (x y : Run) → 1 ≤ x .length → 1 ≤ y .length → Apart x y → meet x y ≡ false
 apart-meet x y lx ly a = by-cases (meet x y) (λ h. let s = meet-shares x y lx ly h in absurd (a (s .0) (s .1) (s .2))) (λ h. h)
@@ -128,7 +125,7 @@ apart-overlaps x y lx ly a =
 pub joins-not : (x y : Run) → joins x y ≡ false → x .row .0 ≡ y .row .0 → x .duty ≡ y .duty → stop x ≡ y .first → ⊥
 unfolding joins
 joins-not x y h r d s =
-    true≢false (sym (rw (eq-eqb (x .row .0) (y .row .0) r, eq-eqb (x .duty) (y .duty) d, eq-eqb (stop x) (y .first) s)) ∙ h)
+    not-both (rw (eq-eqb (x .row .0) (y .row .0) r, eq-eqb (x .duty) (y .duty) d, eq-eqb (stop x) (y .first) s)) h
 
 pub not-joins : (x y : Run) → (x .row .0 ≡ y .row .0 → x .duty ≡ y .duty → stop x ≡ y .first → ⊥) → joins x y ≡ false
 unfolding joins

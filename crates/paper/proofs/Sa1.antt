@@ -73,7 +73,10 @@ follows t [] i r u a h = tt
 follows t (n ∷ ns) i r u a h =
     lay-cases t n ns i r u a (h .0 .1) (Pairs (Follows t))
     (λ r′ u′ b e c d. (ahead r u n r′ u′ c (omega arith), follows t ns (i + 1) r′ u′ c (h .1)))
-    (λ u′ e c d. ((record { after = omega arith; split = λ s. omega arith }, ahead r u (t - u) (r + 1) u′ c (omega arith)), (ahead (r + 1) 0 u′ (r + 1) u′ c (omega arith), follows t ns (i + 1) (r + 1) u′ c (h .1))))
+    (λ u′ e c d. (
+      (record { after = omega arith; split = λ s. omega arith }, ahead r u (t - u) (r + 1) u′ c (omega arith)),
+      (ahead (r + 1) 0 u′ (r + 1) u′ c (omega arith), follows t ns (i + 1) (r + 1) u′ c (h .1)),
+    ))
   where
     ahead : (r₁ u₁ l r′ u′ : ℕ) → u′ < t → r₁ * t + u₁ + l ≤ r′ * t + u′ → Each (Follows t (run r₁ i u₁ l)) (lay t ns (i + 1) r′ u′)
     ahead r₁ u₁ l r′ u′ c e = each-map (Of t ns (i + 1) r′ u′) (Follows t (run r₁ i u₁ l)) (λ x k. record { after = omega arith; split = λ s. omega arith }) (lay t ns (i + 1) r′ u′) (laid t ns (i + 1) r′ u′ c (h .1))

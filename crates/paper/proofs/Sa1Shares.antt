@@ -22,11 +22,12 @@ use Rattle.paper.specs.Sa1.{lay}
 use Rattle.paper.specs.Rules.{unitsOf}
 use Rattle.paper.proofs.Sa1.{Slice, Of, lay-cases, laid, few-runs}
 
--- a run of the duty adds its length, a run of another adds nothing
+-- a run of the duty adds its length
 pub units-own : (x : Run) (xs : List Run) (i : ℕ) → x .duty ≡ i → unitsOf (x ∷ xs) i ≡ x .length + unitsOf xs i
 unfolding unitsOf
 units-own x xs i e = rw (eq-eqb (x .duty) i e)
 
+-- a run of another adds nothing
 pub units-other : (x : Run) (xs : List Run) (i : ℕ) → (x .duty ≡ i → ⊥) → unitsOf (x ∷ xs) i ≡ unitsOf xs i
 unfolding unitsOf
 units-other x xs i e = rw (ne-eqb (x .duty) i e) (omega arith)
@@ -45,6 +46,7 @@ not-earlier t ns i r u a h = each-map (Of t ns (i + 1) r u) (λ x. x .duty ≡ i
 units-later : (t : ℕ) (ns : List ℕ) (i r u : ℕ) → u < t → Each (Slice t) ns → unitsOf (lay t ns (i + 1) r u) i ≡ 0
 units-later t ns i r u a h = units-none (lay t ns (i + 1) r u) i (not-earlier t ns i r u a h)
 
+-- duty i + (k + 1) is the one k after i + 1
 next : (i k : ℕ) → i + 1 + k ≡ i + suc k
 next i k = omega arith
 
@@ -60,22 +62,25 @@ units-laid t (n ∷ ns) i r u a h (suc k) l =
     rw (sym (next i k))
     (lay-cases t n ns i r u a (h .0 .1) (λ xs. unitsOf xs (i + 1 + k) ≡ getD ns k 0)
     (λ r′ u′ b e c d. units-other _ _ (i + 1 + k) (λ p. omega arith) ∙ units-laid t ns (i + 1) r′ u′ c (h .1) k (le-of-suc-le-suc l))
-    (λ u′ e c d. units-other _ _ (i + 1 + k) (λ p. omega arith) ∙ units-other _ _ (i + 1 + k) (λ p. omega arith) ∙ units-laid t ns (i + 1) (r + 1) u′ c (h .1) k (le-of-suc-le-suc l)))
+    (λ u′ e c d. units-other _ _ (i + 1 + k) (λ p. omega arith) ∙ units-other _ _ (i + 1 + k) (λ p. omega arith)
+    ∙ units-laid t ns (i + 1) (r + 1) u′ c (h .1) k (le-of-suc-le-suc l)))
 
 -- how many runs are duty i's
 unfoldable pub runsOf : List Run → ℕ → ℕ
 runsOf [] i = zero
 runsOf (x ∷ xs) i = one-if (eqb (x .duty) i) + runsOf xs i
 
--- a run of the duty counts, a run of another does not
+-- a run of the duty counts
 pub runs-own : (x : Run) (xs : List Run) (i : ℕ) → x .duty ≡ i → runsOf (x ∷ xs) i ≡ 1 + runsOf xs i
 unfolding runsOf
 runs-own x xs i e = rw (eq-eqb (x .duty) i e)
 
+-- a run of another does not
 pub runs-other : (x : Run) (xs : List Run) (i : ℕ) → (x .duty ≡ i → ⊥) → runsOf (x ∷ xs) i ≡ runsOf xs i
 unfolding runsOf
 runs-other x xs i e = rw (ne-eqb (x .duty) i e) (omega arith)
 
+-- so runs of other duties count nothing
 pub runs-none : (xs : List Run) (i : ℕ) → Each (λ x. x .duty ≡ i → ⊥) xs → runsOf xs i ≡ 0
 unfolding runsOf
 runs-none [] i h = refl

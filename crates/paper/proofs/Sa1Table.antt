@@ -82,11 +82,12 @@ module _ (w : Width) (t m : ℕ) (ds : List Duty) (f : Fits w t m ds) where
       (at-each (λ x. Slice t (slice t x)) (duty 0 0) ds
       (λ i h. slice-bounds t (dutyAt ds i) (f .ticks-least) (f .duty-ranged i h) (f .slices-whole i h)))
 
-  -- run k by itself, and run k with an earlier one
+  -- run k by itself
   run-laid : (k : ℕ) → k < length (sa1 t m ds .runs) → Of t (slices t ds) 0 0 0 (runAt (sa1 t m ds .runs) k)
   unfolding sa1
   run-laid k h = each-at (Of t (slices t ds) 0 0 0) (run 0 0 0 0) (lay t (slices t ds) 0 0 0) (laid t (slices t ds) 0 0 0 (f .ticks-least) all-slices) k h
 
+  -- run k with an earlier one
   run-follows : (j k : ℕ) → j < k → k < length (sa1 t m ds .runs) → Follows t (runAt (sa1 t m ds .runs) j) (runAt (sa1 t m ds .runs) k)
   unfolding sa1
   run-follows j k l h = pairs-at (Follows t) (run 0 0 0 0) (lay t (slices t ds) 0 0 0) (follows t (slices t ds) 0 0 0 (f .ticks-least) all-slices) j k l h
@@ -150,18 +151,22 @@ module _ (w : Width) (t m : ℕ) (ds : List Duty) (f : Fits w t m ds) where
       before-after t _ _ (run-follows k (k + 1) (omega arith) h) (run-laid k (omega arith) .some-units) (run-laid (k + 1) h .some-units) (run-laid (k + 1) h .inside)
 
   -- rule 14
-  pub sa1-apart-in-row : (j k : ℕ) → j < k → k < length (sa1 t m ds .runs) → runAt (sa1 t m ds .runs) j .row .0 ≡ runAt (sa1 t m ds .runs) k .row .0 → Apart (runAt (sa1 t m ds .runs) j) (runAt (sa1 t m ds .runs) k)
+  pub sa1-apart-in-row : (j k : ℕ) → j < k → k < length (sa1 t m ds .runs) → runAt (sa1 t m ds .runs) j .row .0 ≡ runAt (sa1 t m ds .runs) k .row .0
+      → Apart (runAt (sa1 t m ds .runs) j) (runAt (sa1 t m ds .runs) k)
   sa1-apart-in-row j k l h e = apart-after t _ _ (run-follows j k l h) e
 
   -- rule 15
-  pub sa1-not-joined : (j k : ℕ) → j < length (sa1 t m ds .runs) → k < length (sa1 t m ds .runs) → runAt (sa1 t m ds .runs) j .row .0 ≡ runAt (sa1 t m ds .runs) k .row .0 → runAt (sa1 t m ds .runs) j .duty ≡ runAt (sa1 t m ds .runs) k .duty → stop (runAt (sa1 t m ds .runs) j) ≡ runAt (sa1 t m ds .runs) k .first → ⊥
+  pub sa1-not-joined : (j k : ℕ) → j < length (sa1 t m ds .runs) → k < length (sa1 t m ds .runs)
+      → runAt (sa1 t m ds .runs) j .row .0 ≡ runAt (sa1 t m ds .runs) k .row .0 → runAt (sa1 t m ds .runs) j .duty ≡ runAt (sa1 t m ds .runs) k .duty
+      → stop (runAt (sa1 t m ds .runs) j) ≡ runAt (sa1 t m ds .runs) k .first → ⊥
   sa1-not-joined j k a b r d s =
       by-cases (ltb j k) (λ p. omega (arith, run-follows j k (ltb-true j k p) b .split d))
       (λ p. by-cases (ltb k j) (λ q. omega (arith, run-follows k j (ltb-true k j q) a .split (sym d)))
       (λ q. omega (arith, run-laid j a .some-units, ap (λ (i : ℕ). runAt (sa1 t m ds .runs) i .first) (le-antisymm (ltb-false k j q) (ltb-false j k p)))))
 
   -- rule 16
-  pub sa1-apart-of-duty : (j k : ℕ) → j < k → k < length (sa1 t m ds .runs) → runAt (sa1 t m ds .runs) j .duty ≡ runAt (sa1 t m ds .runs) k .duty → (runAt (sa1 t m ds .runs) j .row .0 ≡ runAt (sa1 t m ds .runs) k .row .0 → ⊥) → Apart (runAt (sa1 t m ds .runs) j) (runAt (sa1 t m ds .runs) k)
+  pub sa1-apart-of-duty : (j k : ℕ) → j < k → k < length (sa1 t m ds .runs) → runAt (sa1 t m ds .runs) j .duty ≡ runAt (sa1 t m ds .runs) k .duty
+      → (runAt (sa1 t m ds .runs) j .row .0 ≡ runAt (sa1 t m ds .runs) k .row .0 → ⊥) → Apart (runAt (sa1 t m ds .runs) j) (runAt (sa1 t m ds .runs) k)
   sa1-apart-of-duty j k l h d r u p q = omega (arith, run-follows j k l h .split d)
 
   -- rule 17

@@ -8,3 +8,5 @@ pub mod Builder
 pub mod Rules
 pub mod Statements
 pub mod Answers
+pub mod Text
+pub mod Cases

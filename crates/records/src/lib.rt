@@ -74,7 +74,7 @@ pub fn read_run(b: &[u8], at: usize) -> Run
 // ---- writing
 
 // Stores bytes over the front of a lent rest.
-fn put_bytes(out: &mut [u8], bytes: &[u8])
+pub fn put_bytes(out: &mut [u8], bytes: &[u8])
     requires { ⌜ length (now bytes) ≤ length (now out) ⌝ }
     ensures { λ r. ⌜ now (out .exit) ≡ over (now (bytes .entry)) (now (out .entry)) ⌝ }
 {

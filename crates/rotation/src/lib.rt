@@ -146,7 +146,7 @@ fn chain_first(starts: &[u32; 33], ends: &[u32; 33], row: Row) -> Row
 }
 
 // The last row of a row's chain: up along the links. Nothing is chained to the row past the 32.
-fn chain_last(starts: &[u32; 33], ends: &[u32; 33], row: Row) -> Row
+pub fn chain_last(starts: &[u32; 33], ends: &[u32; 33], row: Row) -> Row
     requires { ⌜ row .0 ≤ 32 ⌝ }
     ensures { λ r. ⌜ IsLast (linkOf (now (starts .entry)) (now (ends .entry))) (row .0) (r .0) ⌝ }
 {

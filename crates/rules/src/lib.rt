@@ -102,7 +102,7 @@ fn bad_order(b: &[u8], rd: Reading) -> usize
 
 // How a run may clash with an earlier one: they share a unit of a row, are two where one would do, or give one duty two
 // rows at a time.
-pub enum Clash {
+enum Clash {
     Overlap,
     Joint,
     Twice,

@@ -41,20 +41,16 @@ loop-again c =
     let b = c .before .before .before .before .before .before .args .b .now in
     let rd = c .before .before .before .before .before .before .args .rd in (
       search needs,
-      rw (
-        c .gcd-of .ensures,
-        c .before .duty-of .ensures .0,
-      ) (periods-further (c .before .before .before .loop .g) (c .before .before .before .loop .d) (tableOf b rd .duties) (omega (arith, table-duties b rd)) ∙ c .before .before .before .loop .inv .1),
+      rw (c .gcd-of .ensures, c .before .duty-of .ensures .0)
+          (periods-further (c .before .before .before .loop .g) (c .before .before .before .loop .d) (tableOf b rd .duties) (omega (arith, table-duties b rd)) ∙ c .before .before .before .loop .inv .1),
     )
 
 returns : tie.Need-returns Inv-loop μ-loop
 returns c =
     let b = c .before .before .before .before .args .b .now in
     let rd = c .before .before .before .before .args .rd in
-    sym (periods-finished (c .before .loop .g) (c .before .loop .d) (tableOf b rd .duties) (omega (
-      arith,
-      table-duties b rd,
-    ))) ∙ c .before .loop .inv .1
+    sym (periods-finished (c .before .loop .g) (c .before .loop .d) (tableOf b rd .duties) (omega (arith, table-duties b rd)))
+    ∙ c .before .loop .inv .1
 
 pub block-length-of-spec : {M : Type 1} → statement M
 block-length-of-spec =

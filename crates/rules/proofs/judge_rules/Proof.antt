@@ -1,13 +1,31 @@
 -- `judge_rules`: the block length, the slices, then the runs. Each answer goes by the tests that led to it.
 -- Assumes nothing.
+use mathlib.Core.Path.{_≡_, ap}
+use mathlib.Core.Bool.{true}
 use native.Mathlib.Omega.{arith}
+use lib.Dec.{eqb}
+use lib.ListN.{length}
+use Rattle.paper.specs.Words.{Table, blockLengthOf}
+use Rattle.paper.specs.Outcome.{refused}
+use Rattle.rules.proofs.Through.{found-none, found-one}
 use Rattle.form.specs.Formed.{tableOf}
-use borrow.Author.Tests.{eq-eqb, ne-eqb, lt-ltb, le-ltb}
+use borrow.Author.Tests.{eq-eqb, ne-eqb}
 use Rattle.paper.specs.Rules.{judgeTable}
 use Rattle.form.proofs.Table.{table-ticks, table-duties}
 use borrow.Author.Needs.{needs}
 use Rattle.rules.proofs.judge_rules.Statement.{statement}
 use Rattle.rules.proofs.judge_rules.Tie as tie
+
+-- the table in the bytes
+abbrev table : tie.Start → Table
+table s = tableOf (s .args .b .now) (s .args .rd)
+
+-- its block length and the number of its duties
+ticks : (s : tie.Start) → table s .ticks ≡ s .args .rd .«block_length»
+ticks s = table-ticks _ _ (s .pre)
+
+duties : (s : tie.Start) → length (table s .duties) ≡ s .args .rd .duties
+duties s = table-duties (s .args .b .now) (s .args .rd)
 
 block-length-of-requires : tie.Need-block-length-of-requires
 block-length-of-requires c κs = search needs
@@ -15,11 +33,14 @@ block-length-of-requires c κs = search needs
 returns : tie.Need-returns
 unfolding judgeTable
 returns c =
-    let t = tableOf (c .before .before .before .before .args .b .now) (c .before .before .before .before .args .rd) in
-    rw (
-      ← c .before .before .block-length-of .ensures,
-      ne-eqb (t .ticks) (c .before .before .block-length-of .result) (λ e. omega (arith, table-ticks _ _ (c .before .before .before .before .pre))),
-    )
+    let s = c .before .before .before .before in
+    rw (← c .before .before .block-length-of .ensures, ne-eqb (table s .ticks) (c .before .before .block-length-of .result) (λ e. omega (arith, ticks s)))
+
+-- T is the greatest common divisor
+right : (c : tie.Else1) → eqb (table (c .before .before .before .before) .ticks) (blockLengthOf (table (c .before .before .before .before) .duties)) ≡ true
+right c =
+    let s = c .before .before .before .before in
+    rw (← c .before .before .block-length-of .ensures) (eq-eqb (table s .ticks) (c .before .before .block-length-of .result) (omega (arith, ticks s)))
 
 bad-slice-requires : tie.Need-bad-slice-requires
 bad-slice-requires c κs = search needs
@@ -30,14 +51,9 @@ cast-if2 c = search needs
 returns-2 : tie.Need-returns-2
 unfolding judgeTable
 returns-2 c =
-    let t = tableOf (c .before .before .before .before .before .before .before .args .b .now) (c .before .before .before .before .before .before .before .args .rd) in
-    rw (
-      ← c .before .before .before .before .before .block-length-of .ensures,
-      eq-eqb (t .ticks) (c .before .before .before .before .before .block-length-of .result) (omega (arith, table-ticks _ _ (c .before .before .before .before .before .before .before .pre))),
-      table-duties _ (c .before .before .before .before .before .before .before .args .rd),
-      ← c .before .before .bad-slice .ensures,
-      lt-ltb (c .before .before .bad-slice .result) (c .before .before .before .before .before .before .before .args .rd .duties) (search needs),
-    )
+    let s = c .before .before .before .before .before .before .before in
+    rw (right (c .before .before .before), found-one (c .before .before .bad-slice .ensures) (duties s) (search needs))
+    (ap (refused 12) (c .before .before .bad-slice .ensures))
 
 judge-runs-requires : tie.Need-judge-runs-requires
 judge-runs-requires c κs = search needs
@@ -45,14 +61,9 @@ judge-runs-requires c κs = search needs
 returns-3 : tie.Need-returns-3
 unfolding judgeTable
 returns-3 c =
-    let t = tableOf (c .before .before .before .before .before .before .before .before .args .b .now) (c .before .before .before .before .before .before .before .before .args .rd) in
-    rw (
-      ← c .before .before .before .before .before .before .block-length-of .ensures,
-      eq-eqb (t .ticks) (c .before .before .before .before .before .before .block-length-of .result) (omega (arith, table-ticks _ _ (c .before .before .before .before .before .before .before .before .pre))),
-      table-duties _ (c .before .before .before .before .before .before .before .before .args .rd),
-      ← c .before .before .before .bad-slice .ensures,
-      le-ltb (c .before .before .before .bad-slice .result) (c .before .before .before .before .before .before .before .before .args .rd .duties) (search needs),
-    ) (c .judge-runs .ensures)
+    let s = c .before .before .before .before .before .before .before .before in
+    rw (right (c .before .before .before .before), found-none (c .before .before .before .bad-slice .ensures) (duties s) (search needs))
+    (c .judge-runs .ensures)
 
 pub judge-rules-spec : {M : Type 1} → statement M
 judge-rules-spec =

@@ -1,0 +1,156 @@
+-- How often a duty stands on a unit of a block. Where the runs of a row are apart, the rows that a duty holds on a unit are as many as its
+-- runs that have the unit: each run adds its own row and takes none away. Over the units of a block that adds up to the runs' lengths; and
+-- where the runs of a duty are apart it is at most one.
+-- Assumes nothing.
+use Prim.Native.Nat.{ℕ, zero, suc, _+_, _≤_, _<_}
+use mathlib.Core.Path.{_≡_, refl, sym, ap, _∙_}
+use mathlib.Core.Bool.{Bool, true, false, _&&_}
+use mathlib.Core.List.{List, [], _∷_}
+use native.Mathlib.Nat.{le-antisymm}
+use native.Mathlib.Omega.{arith}
+use lib.Dec.{leb, ltb, eqb}
+use lib.ListN.{length}
+use borrow.Author.Tests.{ltb-true, leb-true, eqb-true, eq-eqb, ne-eqb}
+use Rattle.laws.specs.Choice.{pick, one-if}
+use Rattle.laws.specs.Sum.{sumTo}
+use Rattle.laws.proofs.Cases.{by-cases, lt-or-le, and-yes, and-no}
+use Rattle.laws.proofs.Lists.{and-left, and-right}
+use Rattle.laws.proofs.Sum.{sum-ext, sum-plus, sum-zero, sum-only, count-stretch}
+use Rattle.paper.specs.declared.Row.{Row}
+use Rattle.paper.specs.declared.Run.{Run}
+use Rattle.paper.specs.declared.Held.the-variants.{Idle, By}
+use Rattle.paper.specs.Words.{row, stop, covers, runAt, heldIn, same}
+use Rattle.paper.specs.Rules.{unitsOf}
+use Rattle.paper.specs.Statements.{Has, Apart}
+use Rattle.paper.proofs.Holding.{RowsApart, Covering, covers-row, covers-has, held-yes, held-no, held-idle, held-some}
+
+-- run x is duty i's and has the unit u
+abbrev pub serves : Run → ℕ → ℕ → Bool
+serves x i u = eqb (x .duty) i && (leb (x .first) u && ltb u (stop x))
+
+-- how many runs of duty i have the unit u
+unfoldable pub onUnit : List Run → ℕ → ℕ → ℕ
+onUnit [] i u = zero
+onUnit (x ∷ xs) i u = one-if (serves x i u) + onUnit xs i u
+
+-- no two runs of one duty share a unit
+abbrev pub DutiesApart : List Run → Type 0
+DutiesApart xs = (j k : ℕ) → j < k → k < length xs → runAt xs j .duty ≡ runAt xs k .duty → Apart (runAt xs j) (runAt xs k)
+
+-- every run's row is one of m
+abbrev pub RowsBelow : ℕ → List Run → Type 0
+RowsBelow m xs = (k : ℕ) → k < length xs → runAt xs k .row .0 < m
+
+-- every run ends by t
+abbrev pub Inside : ℕ → List Run → Type 0
+Inside t xs = (k : ℕ) → k < length xs → stop (runAt xs k) ≤ t
+
+-- idle is no duty; a duty is itself alone
+idle-same : (i : ℕ) → same Idle (By i) ≡ false
+unfolding same
+idle-same i = refl
+
+pub same-by : (i j : ℕ) → same (By i) (By j) ≡ eqb i j
+unfolding same
+same-by i j = refl
+
+-- ---- one run
+
+-- 1 where run x is duty i's and covers unit u of row r
+abbrev counts : Run → ℕ → ℕ → ℕ → ℕ
+counts x i r u = one-if (eqb (x .duty) i && covers x (row r) u)
+
+-- over all rows: the run's own row alone
+counts-rows : (m : ℕ) (x : Run) (i u : ℕ) → x .row .0 < m → sumTo m (λ r. counts x i r u) ≡ one-if (serves x i u)
+unfolding covers
+counts-rows m x i u h =
+    sum-only m (x .row .0) (λ r. counts x i r u) h (λ r l n. rw (ne-eqb (x .row .0) r (λ e. n (sym e)), and-no (eqb (x .duty) i)))
+    ∙ rw (eq-eqb (x .row .0) (x .row .0) refl)
+
+-- over all units: the run's length where it is the duty's
+counts-units : (t : ℕ) (x : Run) (i : ℕ) → stop x ≤ t → sumTo t (λ u. one-if (serves x i u)) ≡ pick (eqb (x .duty) i) (x .length) 0
+counts-units t x i h =
+    by-cases (eqb (x .duty) i) (λ e. rw e (count-stretch t (x .first) (x .length) h))
+    (λ e. rw e (sum-zero t (λ u. 0) (λ u l. refl)))
+
+-- ---- all runs
+
+-- one run more adds where it covers, since no later run of its row covers there too
+same-more : (x : Run) (xs : List Run) → RowsApart (x ∷ xs) → (i r u : ℕ) → one-if (same (heldIn (x ∷ xs) (row r) u) (By i)) ≡ counts x i r u + one-if (same (heldIn xs (row r) u) (By i))
+same-more x xs a i r u =
+    by-cases (covers x (row r) u)
+    (λ h. let idle = held-idle xs (row r) u (λ k l. covers-none h k l) in
+    rw (held-yes x xs (row r) u h, idle, same-by (x .duty) i, idle-same i, h, and-yes (eqb (x .duty) i)) (omega arith))
+    (λ h. rw (held-no x xs (row r) u h, h, and-no (eqb (x .duty) i)) (omega arith))
+  where
+    covers-none : covers x (row r) u ≡ true → (k : ℕ) → k < length xs → covers (runAt xs k) (row r) u ≡ false
+    covers-none h k l =
+        by-cases (covers (runAt xs k) (row r) u)
+        (λ q. absurd (a 0 (suc k) (omega arith) (omega arith) (covers-row x (row r) u h ∙ sym (covers-row (runAt xs k) (row r) u q)) u (covers-has x (row r) u h) (covers-has (runAt xs k) (row r) u q)))
+        (λ q. q)
+
+-- on each unit a duty holds as many rows as it has runs there
+pub rows-unit : (m : ℕ) (xs : List Run) → RowsApart xs → RowsBelow m xs → (i u : ℕ) → sumTo m (λ r. one-if (same (heldIn xs (row r) u) (By i))) ≡ onUnit xs i u
+unfolding onUnit heldIn
+rows-unit m [] a below i u = sum-zero m (λ r. one-if (same Idle (By i))) (λ r l. rw (idle-same i))
+rows-unit m (x ∷ xs) a below i u =
+    sum-ext m (λ r. one-if (same (heldIn (x ∷ xs) (row r) u) (By i))) (λ r. counts x i r u + one-if (same (heldIn xs (row r) u) (By i))) (λ r l. same-more x xs a i r u)
+    ∙ sum-plus m (λ r. counts x i r u) (λ r. one-if (same (heldIn xs (row r) u) (By i)))
+    ∙ rw (counts-rows m x i u (below 0 (omega arith)), rows-unit m xs (λ j k l h. a (suc j) (suc k) (omega arith) (omega arith)) (λ k h. below (suc k) (omega arith)) i u)
+
+-- over the units of a block that makes the units of its runs
+pub units-block : (t : ℕ) (xs : List Run) → Inside t xs → (i : ℕ) → sumTo t (λ u. onUnit xs i u) ≡ unitsOf xs i
+unfolding onUnit unitsOf
+units-block t [] inside i = sum-zero t (λ u. 0) (λ u l. refl)
+units-block t (x ∷ xs) inside i =
+    sum-plus t (λ u. one-if (serves x i u)) (λ u. onUnit xs i u)
+    ∙ rw (counts-units t x i (inside 0 (omega arith)), units-block t xs (λ k h. inside (suc k) (omega arith)) i)
+
+-- ---- at most once
+
+-- where no run of the duty has the unit there are none
+unit-none : (xs : List Run) (i u : ℕ) → ((k : ℕ) → k < length xs → serves (runAt xs k) i u ≡ false) → onUnit xs i u ≡ 0
+unfolding onUnit
+unit-none [] i u c = refl
+unit-none (x ∷ xs) i u c = rw (c 0 (omega arith)) (omega (arith, unit-none xs i u (λ k h. c (suc k) (omega arith))))
+
+-- where the test holds the run is the duty's and has the unit
+serves-has : (x : Run) (i u : ℕ) → serves x i u ≡ true → (x .duty ≡ i) × Has x u
+serves-has x i u h =
+    let a = eqb (x .duty) i in
+    let b = leb (x .first) u in
+    let c = ltb u (stop x) in
+    let bc = and-right a (b && c) h in
+    (eqb-true (x .duty) i (and-left a (b && c) h), (leb-true (x .first) u (and-left b c bc), ltb-true u (stop x) (and-right b c bc)))
+
+-- where a duty's runs are apart, at most one has the unit
+pub unit-once : (xs : List Run) → DutiesApart xs → (i u : ℕ) → onUnit xs i u ≤ 1
+unfolding onUnit
+unit-once [] a i u = omega arith
+unit-once (x ∷ xs) a i u =
+    let rest = unit-once xs (λ j k l h. a (suc j) (suc k) (omega arith) (omega arith)) i u in
+    by-cases (serves x i u)
+    (λ h. let c = serves-has x i u h in rw (h, unit-none xs i u (λ k l. none k l c)) (omega arith))
+    (λ h. rw h (omega arith))
+  where
+    none : (k : ℕ) → k < length xs → (x .duty ≡ i) × Has x u → serves (runAt xs k) i u ≡ false
+    none k l c =
+        by-cases (serves (runAt xs k) i u)
+        (λ q. let d = serves-has (runAt xs k) i u q in
+        absurd (a 0 (suc k) (omega arith) (omega arith) (c .0 ∙ sym (d .0)) u (c .1) (d .1)))
+        (λ q. q)
+
+-- .. so a duty holds a unit on one row only
+pub one-row : (xs : List Run) → DutiesApart xs → (r s : Row) (u i : ℕ) → heldIn xs r u ≡ By i → heldIn xs s u ≡ By i → r .0 ≡ s .0
+one-row xs a r s u i p q =
+    let x = held-some xs r u i p in
+    let y = held-some xs s u i q in
+    go (x .0) (y .0) (x .1) (y .1) (x .2 ∙ sym (y .2))
+  where
+    go : (j k : ℕ) → Covering xs r u j → Covering xs s u k → runAt xs j .duty ≡ runAt xs k .duty → r .0 ≡ s .0
+    go j k c d e =
+        let f = covers-has (runAt xs j) r u (c .covering) in
+        let g = covers-has (runAt xs k) s u (d .covering) in
+        lt-or-le j k (λ l. absurd (a j k l (d .below) e u f g))
+        (λ l. lt-or-le k j (λ m. absurd (a k j m (c .below) (sym e) u g f))
+        (λ m. sym (covers-row (runAt xs j) r u (c .covering)) ∙ ap (λ (n : ℕ). runAt xs n .row .0) (le-antisymm m l) ∙ covers-row (runAt xs k) s u (d .covering)))

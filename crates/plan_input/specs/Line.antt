@@ -1,0 +1,12 @@
+-- The tests that document 01 has for a line after the first.
+use Prim.Native.Nat.{ℕ}
+use mathlib.Core.Bool.{Bool, _&&_}
+use mathlib.Core.List.{List}
+use lib.Dec.{ltb}
+use lib.ListN.{length, take}
+use Rattle.paper.specs.Text.{dutyLineGood}
+
+-- "Every line ends in a line feed. .. line 66, if present, is faulty": the line of duty i, which is line i + 2, at the front
+-- of a text whose first line feed is at k
+unfoldable pub lineGood : ℕ → List ℕ → ℕ → Bool
+lineGood i xs k = ltb k (length xs) && ltb i 64 && dutyLineGood (take k xs)

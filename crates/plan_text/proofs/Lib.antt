@@ -1,0 +1,3 @@
+pub mod ChainLines
+pub mod PlanText
+pub mod Fitting

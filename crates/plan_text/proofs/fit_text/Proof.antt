@@ -1,0 +1,56 @@
+-- `fit_text`: the text is made apart; of a buffer with room for it, it then covers the front.
+-- Assumes nothing.
+use mathlib.Core.Path.{_≡_, refl, sym, ap, _∙_}
+use mathlib.Core.List.{List}
+use Prim.Native.Nat.{ℕ, _≤_}
+use native.Mathlib.Omega.{arith}
+use lib.ListN.{length}
+use Rattle.laws.specs.Lists.{over}
+use Rattle.paper.specs.Outcome.{answer}
+use Rattle.paper.specs.Text.{planText}
+use Rattle.form.specs.Formed.{tableOf}
+use Rattle.plan_text.proofs.Fitting.{fitted-short, fitted-room, front-is}
+use borrow.Author.Needs.{needs}
+use Rattle.plan_text.proofs.fit_text.Statement.{statement}
+use Rattle.plan_text.proofs.fit_text.Tie as tie
+
+slice-aggregate-put-text : tie.Need-slice-aggregate-put-text
+slice-aggregate-put-text c = search needs
+
+put-text-requires : tie.Need-put-text-requires
+put-text-requires c κs = search needs
+
+returns : tie.Need-returns
+returns c =
+    let e = fitted-short (length (c .before .before .before .before .before .before .args .out .now)) (c .before .before .put-text .result) (planText (tableOf (c .before .before .before .before .before .before .args .b .now) (c .before .before .before .before .before .before .args .rd))) (c .before .before .put-text .ensures .0 .0) (search needs) in
+    (rw e, rw e)
+
+array-share-prefix-text : tie.Need-array-share-prefix-text
+array-share-prefix-text c = search needs
+
+slice-aggregate-put-bytes : tie.Need-slice-aggregate-put-bytes
+slice-aggregate-put-bytes c = c .before .before .before .before .put-text .ensures .0 .0 ∙ ap length (sym (front-is _ _ _ _ (c .before .before .before .before .put-text .ensures .0 .0) (c .before .before .before .before .put-text .ensures .0 .1)))
+
+put-bytes-requires : tie.Need-put-bytes-requires
+put-bytes-requires c κs = rw (front-is _ _ _ _ (c .before .before .before .before .put-text .ensures .0 .0) (c .before .before .before .before .put-text .ensures .0 .1)) (omega (arith, c .before .before .before .before .put-text .ensures .0 .0))
+
+same-length : tie.Need-same-length
+same-length c = search needs
+
+returns-2 : tie.Need-returns-2
+returns-2 c =
+    let e = fitted-room (length (c .before .before .before .before .before .before .before .before .before .before .before .args .out .now)) (c .before .before .before .before .before .before .before .put-text .result) (planText (tableOf (c .before .before .before .before .before .before .before .before .before .before .before .args .b .now) (c .before .before .before .before .before .before .before .before .before .before .before .args .rd))) (c .before .before .before .before .before .before .before .put-text .ensures .0 .0) (search needs) in
+    (rw e (ap answer (c .before .before .before .before .before .before .before .put-text .ensures .0 .0)), rw e (c .before .before .put-bytes .ensures ∙ ap (λ w. over w (c .before .before .before .before .before .before .before .before .before .before .before .args .out .now)) (front-is _ _ _ _ (c .before .before .before .before .before .before .before .put-text .ensures .0 .0) (c .before .before .before .before .before .before .before .put-text .ensures .0 .1))))
+
+pub fit-text-spec : {M : Type 1} → statement M
+fit-text-spec =
+    tie.close
+    (tie.spec
+    slice-aggregate-put-text
+    put-text-requires
+    returns
+    array-share-prefix-text
+    slice-aggregate-put-bytes
+    put-bytes-requires
+    same-length
+    returns-2)

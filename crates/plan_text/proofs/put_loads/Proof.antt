@@ -1,0 +1,42 @@
+-- `put_loads`: its two numbers have at most 7 digits each.
+-- Assumes nothing.
+use Prim.Native.Nat.{_≤_}
+use native.Mathlib.Omega.{arith}
+use lib.ListN.{length}
+use Rattle.plan_text.proofs.PlanText.{loads-most}
+use borrow.Author.Needs.{needs}
+use Rattle.plan_text.proofs.put_loads.Statement.{statement}
+use Rattle.plan_text.proofs.put_loads.Tie as tie
+
+sub-t7 : tie.Need-sub-t7
+sub-t7 c = search needs
+
+cast-t8 : tie.Need-cast-t8
+cast-t8 c = search needs
+
+slice-aggregate-put-line : tie.Need-slice-aggregate-put-line
+slice-aggregate-put-line c = search needs
+
+slice-aggregate-put-line-2 : tie.Need-slice-aggregate-put-line-2
+slice-aggregate-put-line-2 c = search needs
+
+put-line-requires : tie.Need-put-line-requires
+put-line-requires c κs = omega (arith, loads-most (c .before .before .before .before .args .runs) (c .before .before .before .before .args .carried) (search needs))
+
+same-length : tie.Need-same-length
+same-length c = search needs
+
+returns : tie.Need-returns
+returns c = (c .before .before .put-line .ensures, omega (arith, c .before .before .put-line .ensures .0, loads-most (c .before .before .before .before .before .before .before .args .runs) (c .before .before .before .before .before .before .before .args .carried) (search needs)))
+
+pub put-loads-spec : {M : Type 1} → statement M
+put-loads-spec =
+    tie.close
+    (tie.spec
+    sub-t7
+    cast-t8
+    slice-aggregate-put-line
+    slice-aggregate-put-line-2
+    put-line-requires
+    same-length
+    returns)

@@ -1,0 +1,208 @@
+//! Refusals at every boundary of the ranges, one line each; the stored output is tests/expected/boundaries.
+//!
+//!     cargo run --release --example boundaries
+
+use tickplume::{calls, Engine, Refusal, MOST_BYTES};
+
+fn told<T: std::fmt::Debug>(result: Result<T, Refusal>) -> String {
+    match result {
+        Ok(answer) => format!("{answer:?}"),
+        Err(refusal) => format!("refused {} {}", refusal.number, refusal.place),
+    }
+}
+
+/// Builds with a buffer of so many bytes, each 0xa5, and says what became of it.
+fn build(name: &str, engines: u32, services: &[u32], periods: &[u32], room: usize) {
+    let mut buffer = vec![0xa5; room];
+    let result = calls::build(engines, services, periods, &mut buffer);
+    let kept = match result {
+        Ok(n) => buffer[n..].iter().all(|&x| x == 0xa5),
+        Err(_) => buffer.iter().all(|&x| x == 0xa5),
+    };
+    println!("build {name}: {}{}", told(result), if kept { "" } else { ", BYTES CHANGED" });
+}
+
+fn builds() {
+    for engines in [0, 1, 32, 33, u32::MAX] {
+        build(&format!("{engines} engines"), engines, &[1], &[1], MOST_BYTES);
+    }
+    build("lists of 1 and 2", 1, &[1], &[1, 1], MOST_BYTES);
+    for duties in [0usize, 1, 64, 65] {
+        build(&format!("{duties} duties"), 32, &vec![1; duties], &vec![64; duties], MOST_BYTES);
+    }
+    for period in [0, 1, 1_000_000, 1_000_001, u32::MAX] {
+        build(&format!("period {period}"), 1, &[1], &[period], MOST_BYTES);
+    }
+    for service in [0, 1, 7, 8] {
+        build(&format!("service {service} of period 7"), 1, &[service], &[7], MOST_BYTES);
+    }
+    build("4 and 5 duty by duty, 5 first", 1, &[3, 1], &[2, 0], MOST_BYTES);
+    build("4 and 5 duty by duty, 4 first", 1, &[1, 3], &[0, 2], MOST_BYTES);
+    build("two slices not whole", 2, &[2, 1, 1], &[6, 4, 4], MOST_BYTES);
+    build("exactly full", 2, &[2, 2, 2], &[3, 3, 3], MOST_BYTES);
+    build("one unit too many", 2, &[2, 2, 3], &[3, 3, 3], MOST_BYTES);
+    build("a buffer of the table's length", 2, &[2, 2, 2], &[3, 3, 3], 81);
+    build("one byte less", 2, &[2, 2, 2], &[3, 3, 3], 80);
+    build("no buffer", 1, &[1], &[1], 0);
+    build("no buffer, and no engines", 0, &[1], &[1], 0);
+}
+
+/// A table written by hand.
+#[derive(Clone)]
+struct Hand {
+    ticks: u32,
+    engines: u8,
+    duties: Vec<(u32, u32)>,
+    runs: Vec<(u8, u8, u32, u32)>,
+    count: Option<u16>,
+}
+
+impl Hand {
+    /// Two engines, blocks of 6; duty 0 has units 0 to 3 of row 0, duty 1 the last of row 0 and the first of row 1.
+    fn good() -> Hand {
+        Hand {
+            ticks: 6,
+            engines: 2,
+            duties: vec![(4, 6), (8, 12), (2, 12)],
+            runs: vec![(0, 0, 0, 4), (0, 1, 4, 2), (1, 1, 0, 2), (1, 2, 3, 1)],
+            count: None,
+        }
+    }
+
+    fn bytes(&self) -> Vec<u8> {
+        let mut b = vec![1];
+        b.extend_from_slice(&self.ticks.to_le_bytes());
+        b.extend_from_slice(&[self.engines, self.duties.len() as u8]);
+        for (c, d) in &self.duties {
+            b.push(2);
+            b.extend_from_slice(&c.to_le_bytes());
+            b.extend_from_slice(&d.to_le_bytes());
+        }
+        for (r, i, u, n) in &self.runs {
+            b.extend_from_slice(&[3, *r, *i]);
+            b.extend_from_slice(&u.to_le_bytes());
+            b.extend_from_slice(&n.to_le_bytes());
+        }
+        b.push(4);
+        b.extend_from_slice(&self.count.unwrap_or(self.runs.len() as u16).to_le_bytes());
+        b
+    }
+}
+
+fn judge(name: &str, table: &[u8]) {
+    println!("judge {name}: {}", told(calls::judge(table)));
+}
+
+/// A table with one thing changed.
+fn changed(name: &str, change: impl Fn(&mut Hand)) {
+    let mut hand = Hand::good();
+    change(&mut hand);
+    judge(name, &hand.bytes());
+}
+
+fn forms() {
+    let good = Hand::good().bytes();
+    judge("a good table", &good);
+    for end in [0, 1, 6, 7, 15, 33, 34, 44, good.len() - 1] {
+        judge(&format!("cut to {end} bytes"), &good[..end]);
+    }
+    judge("one byte more", &[&good[..], &[0]].concat());
+    for (at, byte) in [(0, 2), (7, 3), (34, 2), (34, 4), (good.len() - 3, 3)] {
+        let mut b = good.clone();
+        b[at] = byte;
+        judge(&format!("kind {byte} at byte {at}"), &b);
+    }
+    for ticks in [0, 1_000_000, 1_000_001] {
+        changed(&format!("block length {ticks}"), |h| h.ticks = ticks);
+    }
+    for engines in [0, 1, 32, 33] {
+        changed(&format!("{engines} engines"), |h| h.engines = engines);
+    }
+    changed("no duties", |h| h.duties.clear());
+    changed("64 duties", |h| h.duties = vec![(1, 6); 64]);
+    changed("65 duties", |h| h.duties = vec![(1, 6); 65]);
+    changed("period 0", |h| h.duties[1].1 = 0);
+    changed("period 1,000,001", |h| h.duties[1].1 = 1_000_001);
+    changed("service 0", |h| h.duties[2].0 = 0);
+    changed("service above its period", |h| h.duties[2].0 = 13);
+    changed("a row that is not there", |h| h.runs[3].0 = 2);
+    changed("a duty that is not there", |h| h.runs[3].1 = 3);
+    changed("a run of length 0", |h| h.runs[3].3 = 0);
+    changed("a run to the end of its row", |h| h.runs[3].2 = 5);
+    changed("a run past the end of its row", |h| h.runs[3].2 = 6);
+    changed("a run that ends past 2^32", |h| h.runs[3] = (1, 2, u32::MAX, 2));
+    changed("the wrong number of runs", |h| h.count = Some(5));
+    changed("the number of runs plus 65,280", |h| h.count = Some(4 + 255 * 256));
+    for runs in [128usize, 129] {
+        let hand = Hand {
+            ticks: 300,
+            engines: 1,
+            duties: vec![(runs as u32, 300)],
+            runs: (0..runs as u32).map(|k| (0, 0, 2 * k, 1)).collect(),
+            count: None,
+        };
+        judge(&format!("{runs} runs"), &hand.bytes());
+    }
+}
+
+/// A fault's name and a change that makes it.
+type Fault = (&'static str, fn(&mut Hand));
+
+fn faults() {
+    let each: [Fault; 7] = [
+        ("11", |h| h.duties.iter_mut().for_each(|x| x.1 *= 2)),
+        ("12", |h| h.duties[1].0 = 7),
+        ("13", |h| h.runs.swap(2, 3)),
+        ("14", |h| h.runs[1] = (0, 1, 3, 3)),
+        ("15", |h| {
+            h.runs[0].3 = 2;
+            h.runs.insert(1, (0, 0, 2, 2));
+        }),
+        ("16", |h| h.runs[2].3 = 5),
+        ("17", |h| h.runs[3].3 = 2),
+    ];
+    for (name, fault) in each {
+        changed(&format!("fault {name}"), fault);
+    }
+    for (i, (one, first)) in each.iter().enumerate() {
+        for (other, second) in &each[i + 1..] {
+            changed(&format!("faults {one} and {other}"), |h| {
+                second(h);
+                first(h);
+            });
+        }
+    }
+    changed("faults 10 and 11", |h| {
+        h.duties.iter_mut().for_each(|x| x.1 *= 2);
+        h.runs[3].3 = 0;
+    });
+}
+
+fn asked() {
+    let table = Hand::good().bytes();
+    for engine in [0, 1, 2, 255, 256, u32::MAX] {
+        println!("question engine {engine}: {}", told(calls::question(&table, Engine(engine), u64::MAX)));
+    }
+    for blocks in [0, 1, 2, 999_999_999_999, 1_000_000_000_000, 1_000_000_000_001, u64::MAX] {
+        println!("count {blocks}: {}", told(calls::count(&table, blocks)));
+    }
+    let mut state = calls::start(&table, u64::MAX - 1).unwrap();
+    println!("start at 2^64 - 2: {:?}", &state[..4]);
+    println!("next: {} {:?}", told(calls::next(&table, &mut state)), &state[..4]);
+    println!("next: {} {:?}", told(calls::next(&table, &mut state)), &state[..4]);
+    for (entry, value) in [(1, 1), (3, 1), (32, 1), (1, 1 << 32), (0, 0)] {
+        let mut other = state;
+        other[entry] = value;
+        println!("entry {entry} as {value}, row of engine 0: {}", told(calls::row(&table, &other, Engine(0))));
+        println!("entry {entry} as {value}, row of engine 2: {}", told(calls::row(&table, &other, Engine(2))));
+        let kept = other;
+        println!("entry {entry} as {value}, next: {} {}", told(calls::next(&table, &mut other)), other == kept);
+    }
+}
+
+fn main() {
+    builds();
+    forms();
+    faults();
+    asked();
+}

@@ -1,0 +1,121 @@
+//! The library's calls as safe functions, one for each, over any bytes: whatever arrives is judged first.
+
+use crate::{ffi, Duty, Engine, Held, Reading, Refusal, Reply, Row};
+
+/// The entries of a dispatcher's state: the block, then the row of each of 32 engines.
+pub const STATE: usize = 33;
+
+/// The mark for an idle engine.
+const IDLE: u64 = u64::MAX;
+
+/// A returned word as a result.
+fn told<A>(word: u64, answer: A) -> Result<A, Refusal> {
+    if word == 0 {
+        Ok(answer)
+    } else {
+        Err(Refusal::from_word(word))
+    }
+}
+
+/// Builds the plan of `services` and `periods` into `table` and answers its length in bytes. The bytes past it stay; a
+/// refusal (1 to 8) leaves every byte as it was.
+///
+/// ```
+/// let mut table = [0xaa; 40];
+/// assert_eq!(tickplume::calls::build(1, &[1], &[1], &mut table)?, 30);
+/// assert_eq!(table[..7], [1, 1, 0, 0, 0, 1, 1]);
+/// assert_eq!(table[30], 0xaa);
+/// # Ok::<(), tickplume::Refusal>(())
+/// ```
+pub fn build(engines: u32, services: &[u32], periods: &[u32], table: &mut [u8]) -> Result<usize, Refusal> {
+    let mut answer = [0u64; 1];
+    // SAFETY: here and below every pointer comes from a slice and goes with that slice's length, and the proved
+    // function reads and writes only inside.
+    let word = unsafe {
+        ffi::tickplume_build(
+            engines,
+            services.as_ptr(),
+            services.len(),
+            periods.as_ptr(),
+            periods.len(),
+            table.as_mut_ptr(),
+            table.len(),
+            answer.as_mut_ptr(),
+            answer.len(),
+        )
+    };
+    told(word, answer[0] as usize)
+}
+
+/// Judges any bytes: the reading of an accepted table, or the fault (10 to 17).
+///
+/// ```
+/// let refusal = tickplume::calls::judge(&[1, 2, 3]).unwrap_err();
+/// assert_eq!((refusal.number, refusal.place), (10, 0));
+/// ```
+pub fn judge(table: &[u8]) -> Result<Reading, Refusal> {
+    let mut answer = [0u64; 4];
+    // SAFETY: see `build`.
+    let word = unsafe { ffi::tickplume_judge(table.as_ptr(), table.len(), answer.as_mut_ptr(), answer.len()) };
+    let [block_length, engines, duties, runs] = answer.map(|x| x as u32);
+    told(word, Reading { block_length, engines, duties, runs })
+}
+
+/// The direct question: the duty that the engine runs at the tick, or idle, with its row. Refusals 10 to 17, then 18.
+pub fn question(table: &[u8], engine: Engine, tick: u64) -> Result<Reply, Refusal> {
+    let mut answer = [0u64; 2];
+    // SAFETY: see `build`.
+    let word = unsafe {
+        ffi::tickplume_question(table.as_ptr(), table.len(), engine.0, tick, answer.as_mut_ptr(), answer.len())
+    };
+    let held = if answer[1] == IDLE { Held::Idle } else { Held::Duty(answer[1] as u32) };
+    told(word, Reply { held, row: Row(answer[0] as u32) })
+}
+
+/// The dispatcher's state for a block. Refusals 10 to 17.
+pub fn start(table: &[u8], block: u64) -> Result<[u64; STATE], Refusal> {
+    let mut state = [0u64; STATE];
+    // SAFETY: see `build`.
+    let word =
+        unsafe { ffi::tickplume_start(table.as_ptr(), table.len(), block, state.as_mut_ptr(), state.len()) };
+    told(word, state)
+}
+
+/// The row of an engine in the state's block. Refusals 10 to 17, then 18, then 20.
+pub fn row(table: &[u8], state: &[u64; STATE], engine: Engine) -> Result<Row, Refusal> {
+    let mut answer = [0u64; 1];
+    // SAFETY: see `build`.
+    let word = unsafe {
+        ffi::tickplume_row(
+            table.as_ptr(),
+            table.len(),
+            state.as_ptr(),
+            state.len(),
+            engine.0,
+            answer.as_mut_ptr(),
+            answer.len(),
+        )
+    };
+    told(word, Row(answer[0] as u32))
+}
+
+/// The state of the next block, in the place of this one. Refusals 10 to 17, then 20, then 21; they leave the state.
+pub fn next(table: &[u8], state: &mut [u64; STATE]) -> Result<(), Refusal> {
+    // SAFETY: see `build`.
+    let word = unsafe { ffi::tickplume_next(table.as_ptr(), table.len(), state.as_mut_ptr(), state.len()) };
+    told(word, ())
+}
+
+/// The loads of the first `blocks` blocks. Refusals 10 to 17, then 19.
+pub fn count(table: &[u8], blocks: u64) -> Result<u64, Refusal> {
+    let mut answer = [0u64; 1];
+    // SAFETY: see `build`.
+    let word =
+        unsafe { ffi::tickplume_count(table.as_ptr(), table.len(), blocks, answer.as_mut_ptr(), answer.len()) };
+    told(word, answer[0])
+}
+
+/// The two lists that the builder takes.
+pub fn lists(duties: &[Duty]) -> (Vec<u32>, Vec<u32>) {
+    duties.iter().map(|x| (x.service, x.period)).unzip()
+}

@@ -1,0 +1,48 @@
+//! Block plans for packet engines, proved down to the byte.
+//!
+//! A *plan* serves periodic duties on a number of engines. It is made for one block of ticks; its *rows* move from
+//! *engine* to engine at each block. A row is a line of the plan, an engine is the hardware: [`Row`] and [`Engine`]
+//! are two types, and only the rotation turns one into the other.
+//!
+//! The functions here are safe wrappers of a library whose every function is proved to meet its contract, for every
+//! input: each call answers, or refuses with a [`Refusal`] and changes nothing.
+//!
+//! ```
+//! use tickplume::{Duty, Engine, Held, Table};
+//!
+//! // Three duties of 2 ticks in every 3, on two engines.
+//! let duty = Duty { service: 2, period: 3 };
+//! let table = Table::build(2, &[duty, duty, duty])?;
+//! assert_eq!(table.reading().block_length, 3);
+//!
+//! // At tick 5 engine 0 has duty 2 and engine 1 duty 1.
+//! assert_eq!(table.at(Engine(0), 5)?.held, Held::Duty(2));
+//! assert_eq!(table.at(Engine(1), 5)?.held, Held::Duty(1));
+//!
+//! // 4 loads in block 0, 3 in each later block.
+//! assert_eq!(table.loads(1)?, 4);
+//! assert_eq!(table.loads(1_000_000_000_000)?, 4 + 3 * 999_999_999_999);
+//! # Ok::<(), tickplume::Refusal>(())
+//! ```
+#![warn(missing_docs)]
+
+pub mod calls;
+mod ffi;
+mod refusal;
+mod table;
+
+pub use refusal::Refusal;
+pub use table::{Dispatcher, Duty, Engine, Held, Reading, Reply, Row, Table};
+
+/// The most engines a plan may have.
+pub const MOST_ENGINES: usize = 32;
+/// The most duties a plan may have.
+pub const MOST_DUTIES: usize = 64;
+/// The most runs a table may have.
+pub const MOST_RUNS: usize = 128;
+/// The longest period, in ticks.
+pub const MOST_TICKS: u32 = 1_000_000;
+/// The most blocks that a count of loads may span.
+pub const MOST_BLOCKS: u64 = 1_000_000_000_000;
+/// The length in bytes of the longest table.
+pub const MOST_BYTES: usize = 7 + 9 * MOST_DUTIES + 11 * MOST_RUNS + 3;

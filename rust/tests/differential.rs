@@ -1,0 +1,143 @@
+//! The library beside an independent implementation in plain Rust: random duty sets, valid, faulty and at the edges of
+//! every range; tables built, patched, cut, extended and bit-flipped; questions near tick 0, anywhere and near 2^64;
+//! dispatcher states valid, stale and made up; counts up to 10^12.
+//!
+//! TICKPLUME_COMPARISONS sets how many comparisons are made at the least (200,000 by default), TICKPLUME_SEED the seed.
+//! Above 1,000,000 the progress is shown.
+
+#[path = "../apart/plain.rs"]
+mod plain;
+#[path = "../apart/random.rs"]
+mod random;
+#[path = "../apart/sets.rs"]
+mod sets;
+
+use random::Random;
+use tickplume::{calls, Engine, Held, Refusal};
+
+fn pair(refusal: Refusal) -> (u8, u64) {
+    (refusal.number, refusal.place)
+}
+
+fn setting(name: &str, default: u64) -> u64 {
+    std::env::var(name).ok().map_or(default, |text| text.parse().expect("a number"))
+}
+
+/// One comparison for each call below.
+struct Comparison {
+    made: u64,
+    accepted: u64,
+}
+
+impl Comparison {
+    fn same<T: PartialEq + std::fmt::Debug>(&mut self, what: &str, ours: T, theirs: T, about: &dyn std::fmt::Debug) {
+        self.made += 1;
+        assert!(ours == theirs, "{what}: the library says {ours:?}, plain Rust {theirs:?}, of {about:?}");
+    }
+
+    fn build(&mut self, random: &mut Random) -> Option<Vec<u8>> {
+        let set = match random.below(4) {
+            0 => sets::chained_set(random),
+            1 => sets::odd_set(random),
+            2 => sets::whole_set(random, 2_000),
+            _ => sets::whole_set(random, 30),
+        };
+        let room = if random.once_in(4) { random.below(400) as usize } else { 2_000 };
+        let (mut ours, mut theirs) = (vec![7u8; room], vec![7u8; room]);
+        let a = calls::build(set.engines, &set.services, &set.periods, &mut ours).map_err(pair);
+        let b = plain::build(set.engines, &set.services, &set.periods, &mut theirs);
+        self.same("build", a, b, &set);
+        self.same("the built bytes", &ours, &theirs, &set);
+        a.ok().map(|n| ours[..n].to_vec())
+    }
+
+    fn table(&mut self, random: &mut Random, table: &[u8]) {
+        let ours = calls::judge(table).map(|r| (r.block_length, r.engines, r.duties, r.runs)).map_err(pair);
+        let theirs = plain::judge(table).map(|p| (p.block_length, p.engines, p.duties, p.runs));
+        self.same("judge", ours, theirs, &table);
+        let asked = if ours.is_ok() { 6 } else { 1 };
+        self.accepted += ours.is_ok() as u64;
+        for _ in 0..asked {
+            self.question(random, table);
+            self.count(random, table);
+        }
+        self.dispatch(random, table);
+    }
+
+    fn question(&mut self, random: &mut Random, table: &[u8]) {
+        let most = if random.once_in(20) { 1 << 32 } else { 34 };
+        let engine = random.below(most) as u32;
+        let tick = far(random);
+        let ours = calls::question(table, Engine(engine), tick).map_err(pair).map(|r| {
+            (r.row.0, match r.held {
+                Held::Idle => None,
+                Held::Duty(i) => Some(i),
+            })
+        });
+        self.same("question", ours, plain::question(table, engine, tick), &(engine, tick, table));
+    }
+
+    fn count(&mut self, random: &mut Random, table: &[u8]) {
+        let blocks = match random.below(4) {
+            0 => random.below(5),
+            1 => 1_000_000_000_000 - 2 + random.below(4),
+            2 => random.next(),
+            _ => random.below(1_000_000_000_000),
+        };
+        self.same("count", calls::count(table, blocks).map_err(pair), plain::count(table, blocks), &(blocks, table));
+    }
+
+    fn dispatch(&mut self, random: &mut Random, table: &[u8]) {
+        let block = far(random);
+        let started = calls::start(table, block).map_err(pair);
+        self.same("start", started, plain::start(table, block), &(block, table));
+        let mut state = started.unwrap_or([0; 33]);
+        match random.below(4) {
+            0 => state[0] = state[0].wrapping_add(1),
+            1 => state[1 + random.below(32) as usize] = far(random),
+            _ => {}
+        }
+        let engine = random.below(34) as u32;
+        let told = calls::row(table, &state, Engine(engine)).map_err(pair).map(|r| r.0);
+        self.same("row", told, plain::row(table, &state, engine), &(state, table));
+        let (mut ours, mut theirs) = (state, state);
+        let a = calls::next(table, &mut ours).map_err(pair);
+        let b = plain::next(table, &mut theirs);
+        self.same("next", a, b, &(state, table));
+        self.same("the next state", ours, theirs, &table);
+    }
+}
+
+/// A 64-bit number near 0, near 2^64 or anywhere.
+fn far(random: &mut Random) -> u64 {
+    match random.below(3) {
+        0 => random.below(200),
+        1 => u64::MAX - random.below(200),
+        _ => random.next(),
+    }
+}
+
+#[test]
+fn the_library_and_plain_rust_agree() {
+    let wanted = setting("TICKPLUME_COMPARISONS", 200_000);
+    let mut random = Random::new(setting("TICKPLUME_SEED", 1));
+    let mut comparison = Comparison { made: 0, accepted: 0 };
+    let mut shown = 0;
+    while comparison.made < wanted {
+        if let Some(table) = comparison.build(&mut random) {
+            comparison.table(&mut random, &table);
+            for _ in 0..4 {
+                let patched = sets::patch(&mut random, &table);
+                comparison.table(&mut random, &patched);
+            }
+        }
+        let noise: Vec<u8> = (0..random.below(60)).map(|_| random.below(5) as u8).collect();
+        comparison.table(&mut random, &noise);
+        if wanted > 1_000_000 && comparison.made / 1_000_000 > shown {
+            shown = comparison.made / 1_000_000;
+            eprintln!("{shown} million comparisons");
+        }
+    }
+    println!("{} comparisons, {} accepted tables", comparison.made, comparison.accepted);
+    assert!(comparison.accepted * 20 > comparison.made / 30, "too few accepted tables");
+}

@@ -1,0 +1,36 @@
+#!/usr/bin/env bash
+# The library as its callers link it, natively on this machine: the C example (as C and as C++), the Rust crate's tests, the comparison
+# with the planner written apart, and the same comparison with errors planted, which must be seen.
+set -u
+cd "$(dirname "$0")/.." || exit 2
+
+# need COMMAND PACKAGE: installs Debian's package if the command is not there.
+need() {
+    command -v "$1" >/dev/null && return 0
+    echo "installing $2"
+    (apt-get update && apt-get install -y "$2") >/dev/null 2>&1
+    command -v "$1" >/dev/null || { echo "$1 is not there and $2 could not be installed"; exit 1; }
+}
+need gcc gcc
+need g++ g++
+need cargo cargo
+
+sh scripts/native-library tickplume || exit 1
+
+build=$(mktemp -d)
+trap 'rm -rf "$build"' EXIT
+gcc -std=c11 -Wall -Wextra -Werror -pedantic -O1 -Iinclude examples/simulator.c -Ltarget/native -ltickplume -o "$build/simulator" || exit 1
+g++ -std=c++17 -Wall -Wextra -Werror -pedantic -O1 -Iinclude -x c++ examples/simulator.c -x none -Ltarget/native -ltickplume -o "$build/simulator++" || exit 1
+for program in simulator simulator++; do
+    "$build/$program" | diff -u tests/expected/simulator - || { echo "the C example writes something else ($program)"; exit 1; }
+done
+
+(cd rust && cargo test --offline --release -q 2>&1) || exit 1
+(cd rust && cargo run --offline --release -q --example compare) || exit 1
+for error in backwards one-ring never; do
+    if (cd rust && cargo run --offline --release -q --example compare -- --plant "$error") >"$build/planted"; then
+        echo "a planted error, $error, was not seen"
+        exit 1
+    fi
+    echo "planted $error: $(head -n 1 "$build/planted" | cut -c1-160)"
+done
