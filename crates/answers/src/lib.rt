@@ -1,7 +1,7 @@
 // What is asked of table bytes: which duty an engine runs at a tick, the dispatcher that goes from block to block, and
 // the count of loads. The bytes are judged first. Nothing walks over blocks or ticks.
 ghost use mathlib.Core.Path.{_≡_};
-ghost use Prim.Native.Nat.{_≤_};
+ghost use Prim.Native.Nat.{_+_, _-_, _*_, _≤_};
 ghost use Rattle.laws.specs.Lists.{same-list};
 ghost use Rattle.paper.specs.Schedule.{loads};
 ghost use Rattle.paper.specs.Outcome.{answer, refused};
@@ -74,6 +74,7 @@ pub struct Dispatcher {
     pub rows: [u32; 32],
 }
 
+// Whether a dispatcher has a state to hand back; else the refusal's number and place.
 pub enum Verdict {
     Done,
     Refused(u32, usize),
@@ -227,8 +228,15 @@ pub enum Counted {
     Refused(u32, usize),
 }
 
-// The loads of an accepted table's first blocks: one for each run in the first block, and in each later one but for
-// those carried over the boundary.
+// The loads of some blocks: so many in the first, and in each later one but for those that are kept over the boundary.
+fn over_blocks(blocks: u64, loads: u64, kept: u64) -> u64
+    requires { ⌜ (1 ≤ blocks) × (blocks ≤ mostBlocks) × (loads ≤ 128) × (kept ≤ loads) ⌝ }
+    ensures { λ r. ⌜ r ≡ loads + (blocks - 1) * (loads - kept) ⌝ }
+{
+    loads + (blocks - 1) * (loads - kept)
+}
+
+// The loads of an accepted table's first blocks: in the first there is one for each run.
 fn loads_in(b: &[u8], rd: Reading, blocks: u64) -> u64
     requires { ⌜ Ready (now b) rd ⌝ }
     requires { ⌜ blocks ≤ mostBlocks ⌝ }
@@ -241,8 +249,7 @@ fn loads_in(b: &[u8], rd: Reading, blocks: u64) -> u64
     let starts = e.starts;
     let ends = e.ends;
     let kept = carried(&starts, &ends, rd.engines) as u64;
-    let runs = rd.runs as u64;
-    runs + (blocks - 1) * (runs - kept)
+    over_blocks(blocks, rd.runs as u64, kept)
 }
 
 // The count of an accepted table, or that there are too many blocks.
