@@ -4,3 +4,4 @@ pub mod Building
 pub mod Narrowed
 pub mod Cut
 pub mod Handing
+pub mod OneOutcome
