@@ -1,0 +1,48 @@
+-- What `tickplume_build` leaves: the word, the table and the answer follow from the builder's answer and the bytes it left.
+-- Assumes nothing.
+use Prim.Native.Nat.{ℕ, _+_, _*_, _≤_, _<_}
+use mathlib.Core.Path.{_≡_, refl, sym, ap, _∙_}
+use mathlib.Core.List.{List, [], _∷_}
+use lib.ListN.{length, set}
+use borrow.Author.Tests.{lt-ltb, le-ltb}
+use Rattle.laws.specs.Lists.{over}
+use Rattle.paper.specs.Outcome.{Outcome, refused, answer, lengthOf, leaves}
+use Rattle.paper.specs.Builder.{build}
+use Rattle.paper.proofs.Outcomes.{answered, answer-one, refused-one}
+use Rattle.tickplume.specs.Face.{Told, buildCall, buildEntries}
+use Rattle.tickplume.proofs.Stored.{stored-one}
+
+-- what an outcome of the builder leaves: the word and the answer, and the table
+abbrev pub Left : Outcome (List ℕ) → ℕ → List ℕ → List ℕ → List ℕ → List ℕ → Type 0
+Left o word table table′ lent lent′ = Told (buildEntries o) word lent lent′ × (table′ ≡ leaves o table)
+
+-- a refusal of a length is the refusal
+pub length-refused : (o : Outcome (List ℕ)) (n p : ℕ) → lengthOf o ≡ refused n p → o ≡ refused n p
+length-refused (refused k q) n p e = let z = refused-one k q n p e in rw (z .0, z .1)
+length-refused (answer w) n p e = answered (length w) n p e
+
+-- the builder refused
+left-refused : (o : Outcome (List ℕ)) (n p word : ℕ) (table table′ lent : List ℕ) → lengthOf o ≡ refused n p → table′ ≡ leaves o table → word ≡ n + 256 * p → Left o word table table′ lent lent
+left-refused o n p word table table′ lent e =
+    let z = length-refused o n p e in rw z (λ h w. (record { said = w; left = refl }, h))
+
+-- the builder wrote a table
+left-answer : (o : Outcome (List ℕ)) (k : ℕ) (table table′ lent : List ℕ) → lengthOf o ≡ answer k → table′ ≡ leaves o table → 1 ≤ length lent → Left o 0 table table′ lent (set lent 0 k)
+left-answer (refused n p) k table table′ lent e h l = answered k n p (sym e)
+left-answer (answer w) k table table′ lent e h l =
+    (record { said = refl; left = stored-one k lent l ∙ ap (λ n. over (n ∷ []) lent) (sym (answer-one (length w) k e)) }, h)
+
+-- the lent answer is too short
+pub build-short : (m : ℕ) (ss ps table lent : List ℕ) (word : ℕ) → length lent < 1 → word ≡ 511 → Left (buildCall m ss ps table lent) word table table lent lent
+unfolding buildCall
+build-short m ss ps table lent word h w = rw (lt-ltb (length lent) 1 h) (record { said = w; left = refl }, refl)
+
+pub build-refused : (m : ℕ) (ss ps table table′ lent : List ℕ) (n p word : ℕ) → 1 ≤ length lent → lengthOf (build m ss ps (length table)) ≡ refused n p → table′ ≡ leaves (build m ss ps (length table)) table → word ≡ n + 256 * p → Left (buildCall m ss ps table lent) word table table′ lent lent
+unfolding buildCall
+build-refused m ss ps table table′ lent n p word l e h w =
+    rw (le-ltb (length lent) 1 l) (left-refused (build m ss ps (length table)) n p word table table′ lent e h w)
+
+pub build-answer : (m : ℕ) (ss ps table table′ lent : List ℕ) (k : ℕ) → 1 ≤ length lent → lengthOf (build m ss ps (length table)) ≡ answer k → table′ ≡ leaves (build m ss ps (length table)) table → Left (buildCall m ss ps table lent) 0 table table′ lent (set lent 0 k)
+unfolding buildCall
+build-answer m ss ps table table′ lent k l e h =
+    rw (le-ltb (length lent) 1 l) (left-answer (build m ss ps (length table)) k table table′ lent e h l)

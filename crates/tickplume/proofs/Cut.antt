@@ -1,0 +1,75 @@
+-- What is asked by a lent state comes to the same whether its entries are cut to 32 bits or not: the rows of an accepted table are below its
+-- engines, far below the cut; and bytes that are not accepted are refused before the state is looked at.
+-- Assumes nothing.
+use Prim.Native.Nat.{ℕ, _+_, _-_, _<_, min}
+use mathlib.Core.Path.{_≡_, refl, ap, _∙_}
+use mathlib.Core.List.{List}
+use native.Mathlib.Omega.{arith}
+use lib.Dec.{ltb}
+use lib.ListN.{getD}
+use borrow.Author.Tests.{ltb-true}
+use Rattle.laws.specs.Choice.{pick}
+use Rattle.laws.specs.Lists.{tab, same-list}
+use Rattle.laws.proofs.Cases.{by-cases}
+use Rattle.paper.specs.declared.Row.{Row}
+use Rattle.paper.specs.declared.Engine.{Engine}
+use Rattle.paper.specs.Words.{engine, Table}
+use Rattle.paper.specs.Rotation.{link, rowAt}
+use Rattle.paper.specs.Bytes.{small}
+use Rattle.paper.specs.Outcome.{Outcome, refused, answer, andThen}
+use Rattle.paper.specs.Rules.{accepted}
+use Rattle.paper.specs.Statements.{Ranged}
+use Rattle.paper.specs.Answers.{State, rowsAt, rowTold, advanced}
+use Rattle.paper.proofs.AcceptedBytes.{accepted-ranged}
+use Rattle.paper.proofs.Links.{closed, rows-end}
+use Rattle.paper.proofs.Rotation.{row-below}
+use Rattle.answers.specs.declared.Dispatcher.{Dispatcher}
+use Rattle.answers.specs.Told.{Handed, stateAs, handed}
+use Rattle.tickplume.specs.Face.{stateIn}
+use Rattle.tickplume.proofs.Narrowed.{most, cut-same}
+
+-- the state with its entries cut
+abbrev pub cutState : List ℕ → State
+cutState l = record { block = getD l 0 0; rows = tab 32 (λ e. min (getD l (e + 1) 0) most) }
+
+-- a row of a block is small
+rows-small : (t : Table) → Ranged small t → (b e : ℕ) → pick (ltb e (t .engines)) (rowAt (link t) b (engine e) .0) 0 < most
+rows-small t g b e =
+    by-cases (ltb e (t .engines))
+    (λ p. rw p (omega (arith, row-below (link t) (t .engines) (rows-end t (closed small t g)) b e (ltb-true e (t .engines) p), g .engines-most)))
+    (λ p. rw p (omega arith))
+
+-- so the cut state is the one for its block where the state is
+own-same : (t : Table) → Ranged small t → (l : List ℕ) → same-list (cutState l .rows) (rowsAt t (getD l 0 0)) ≡ same-list (stateIn l .rows) (rowsAt t (getD l 0 0))
+unfolding rowsAt
+own-same t g l =
+    cut-same (λ e. getD l (e + 1) 0) (λ e. pick (ltb e (t .engines)) (rowAt (link t) (getD l 0 0) (engine e) .0) 0)
+    (λ e h. rows-small t g (getD l 0 0) e)
+
+-- what is asked of accepted bytes, where two ways to ask it come to the same for each table in range
+asked-same : {A : Type 0} (b : List ℕ) (f g : Table → Outcome A) → ((t : Table) → Ranged small t → f t ≡ g t) → andThen (accepted b) f ≡ andThen (accepted b) g
+asked-same {A} b f g same = go (accepted b) refl
+  where
+    go : (o : Outcome Table) → accepted b ≡ o → andThen o f ≡ andThen o g
+    go (refused n p) e = refl
+    go (answer t) e = same t (accepted-ranged b t e)
+
+-- the row
+pub row-cut : (b l : List ℕ) (e : Engine) → rowTold b (cutState l) e ≡ rowTold b (stateIn l) e
+unfolding rowTold
+row-cut b l e = asked-same b _ _ (λ t g. rw (own-same t g l))
+
+-- the next state
+pub next-cut : (b l : List ℕ) → advanced b (cutState l) ≡ advanced b (stateIn l)
+unfolding advanced
+next-cut b l = asked-same b _ _ (λ t g. rw (own-same t g l))
+
+-- a dispatcher taken from a state, asked for the row or for the next state
+taken-is : (l : List ℕ) (d : Dispatcher) → d .block ≡ getD l 0 0 → d .rows ≡ tab 32 (λ e. min (getD l (e + 1) 0) most) → stateAs d ≡ cutState l
+taken-is l d p q = λ i. record { block = p i; rows = q i }
+
+pub row-asked : (b l : List ℕ) (e : Engine) (d : Dispatcher) {o : Outcome Row} → d .block ≡ getD l 0 0 → d .rows ≡ tab 32 (λ k. min (getD l (k + 1) 0) most) → o ≡ rowTold b (stateAs d) e → o ≡ rowTold b (stateIn l) e
+row-asked b l e d p q h = h ∙ ap (λ (s : State). rowTold b s e) (taken-is l d p q) ∙ row-cut b l e
+
+pub next-asked : (b l : List ℕ) (d : Dispatcher) {r : Handed} → d .block ≡ getD l 0 0 → d .rows ≡ tab 32 (λ k. min (getD l (k + 1) 0) most) → r ≡ handed (advanced b (stateAs d)) → r ≡ handed (advanced b (stateIn l))
+next-asked b l d p q h = h ∙ ap (λ (s : State). handed (advanced b s)) (taken-is l d p q) ∙ ap handed (next-cut b l)

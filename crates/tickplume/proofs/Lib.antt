@@ -1,0 +1,7 @@
+pub mod Telling
+pub mod Stored
+pub mod Building
+pub mod Narrowed
+pub mod Cut
+pub mod Handing
+pub mod OneOutcome

@@ -1,0 +1,37 @@
+-- One, two or four entries stored one after the other stand over the front of the list; and so does a first entry with others after it.
+-- Assumes nothing.
+use Prim.Native.Nat.{ℕ, _≤_}
+use mathlib.Core.Path.{_≡_, refl}
+use mathlib.Core.List.{List, [], _∷_}
+use native.Mathlib.Omega.{arith}
+use lib.ListN.{length, getD, set}
+use Rattle.laws.specs.Lists.{over}
+use Rattle.laws.proofs.Writing.{Wrote, start, stored, done}
+
+pub stored-one : (x : ℕ) (l : List ℕ) → 1 ≤ length l → set l 0 x ≡ over (x ∷ []) l
+stored-one x l h = done (x ∷ []) l (set l 0 x) 1 (stored (x ∷ []) l [] l x 0 (start (x ∷ []) l) (omega arith))
+
+pub stored-two : (x y : ℕ) (l : List ℕ) → 2 ≤ length l → set (set l 0 x) 1 y ≡ over (x ∷ y ∷ []) l
+stored-two x y l h =
+    let w : List ℕ = x ∷ y ∷ [] in
+    done w l (set (set l 0 x) 1 y) 2 (stored w l [] (set l 0 x) y 1 (stored w l (y ∷ []) l x 0 (start w l) (omega arith)) (omega arith))
+
+pub stored-four : (x y z v : ℕ) (l : List ℕ) → 4 ≤ length l → set (set (set (set l 0 x) 1 y) 2 z) 3 v ≡ over (x ∷ y ∷ z ∷ v ∷ []) l
+stored-four x y z v l h =
+    let w : List ℕ = x ∷ y ∷ z ∷ v ∷ [] in
+    let one = stored w l (y ∷ z ∷ v ∷ []) l x 0 (start w l) (omega arith) in
+    let two = stored w l (z ∷ v ∷ []) (set l 0 x) y 1 one (omega arith) in
+    let three = stored w l (v ∷ []) (set (set l 0 x) 1 y) z 2 two (omega arith) in
+    done w l (set (set (set (set l 0 x) 1 y) 2 z) 3 v) 4 (stored w l [] (set (set (set l 0 x) 1 y) 2 z) v 3 three (omega arith))
+
+-- a list whose first entry stands for what is written first
+pub opened : (rest l : List ℕ) → 1 ≤ length l → Wrote (getD l 0 0 ∷ rest) l rest l 1
+unfolding over
+opened rest [] h = absurd (omega arith)
+opened rest (x ∷ xs) h = record { w = x ∷ []; len = refl; is = refl; left = refl }
+
+-- a first entry, stored, and the others written after it: all of them over the front
+pub opened-over : (x : ℕ) (rest l : List ℕ) → 1 ≤ length l → over (getD (set l 0 x) 0 0 ∷ rest) (set l 0 x) ≡ over (x ∷ rest) l
+unfolding over
+opened-over x rest [] h = absurd (omega arith)
+opened-over x rest (y ∷ l) h = refl

@@ -1,0 +1,73 @@
+-- `tickplume_start`: the dispatcher's verdict as a word, or its state as 33 entries.
+-- Assumes nothing.
+use borrow.Author.Needs.{needs}
+use Rattle.paper.specs.Answers.{start}
+use Rattle.paper.proofs.Listed.{start-listed}
+use Rattle.tickplume.specs.Face.{startCall, stateEntries, entries}
+use Rattle.tickplume.proofs.Telling.{tell-short, tell-refused, tell-answer}
+use Rattle.tickplume.proofs.Handing.{handed-refused, handed-done}
+use Rattle.tickplume.proofs.tickplume_start.Statement.{statement}
+use Rattle.tickplume.proofs.tickplume_start.Tie as tie
+
+refusal-requires : tie.Need-refusal-requires
+refusal-requires c κs = search needs
+
+returns : tie.Need-returns
+unfolding startCall
+returns c =
+    let args = c .before .before .before .before .args in
+    tell-short (entries stateEntries (start (args .table .now) (args .block))) 33 _ (args .state .now) (args .state .now) (search needs) (c .refusal .ensures)
+
+start-requires : tie.Need-start-requires
+start-requires c κs = search needs
+
+enum-known-verdict : tie.Need-enum-known-verdict
+enum-known-verdict c = search needs
+
+refusal-requires-2 : tie.Need-refusal-requires-2
+refusal-requires-2 c κs =
+    let args = c .before .before .before .before .before .before .before .args in
+    let o = start (args .table .now) (args .block) in
+    let done = c .before .before .before .start in
+    let z = start-listed (args .table .now) (args .block) _ _ (handed-refused (done .result) o _ _ (done .ensures) (c .before .verdict .given .1)) in
+    (z .byte, z .place)
+
+enum-told : tie.Need-enum-told
+enum-told c = search needs
+
+put-requires : tie.Need-put-requires
+put-requires c κs = search needs
+
+returns-2 : tie.Need-returns-2
+unfolding startCall
+returns-2 c =
+    let args = c .before .before .before .before .before .before .before .before .args in
+    let o = start (args .table .now) (args .block) in
+    let done = c .before .before .before .before .start in
+    tell-refused stateEntries o 33 _ _ _ (args .state .now) (search needs) (handed-refused (done .result) o _ _ (done .ensures) (c .before .before .verdict .given .1)) (c .refusal2 .ensures)
+
+same-length : tie.Need-same-length
+same-length c = search needs
+
+returns-3 : tie.Need-returns-3
+unfolding startCall
+returns-3 c =
+    let args = c .before .before .before .before .before .before .before .before .before .before .before .args in
+    let o = start (args .table .now) (args .block) in
+    let done = c .before .before .before .before .before .before .before .start in
+    tell-answer stateEntries o 33 _ (args .state .now) _ (search needs) (handed-done (done .result) o (done .ensures) (c .before .before .before .before .before .enum-told .given .1)) (c .before .before .put .ensures)
+
+pub tickplume-start-spec : {M : Type 1} → statement M
+tickplume-start-spec =
+    tie.close
+    (tie.spec
+    refusal-requires
+    returns
+    start-requires
+    enum-known-verdict
+    refusal-requires-2
+    enum-told
+    put-requires
+    returns-2
+    same-length
+    returns-3)

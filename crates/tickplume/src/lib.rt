@@ -1,0 +1,217 @@
+// The outside face, for C and Rust: include/tickplume.h says what each function takes, answers and refuses. A slice passes
+// as a pointer and a length. The returned word is 0, or a refusal's number in the low eight bits and its place above them;
+// a refused call writes nothing.
+ghost use mathlib.Core.Path.{_≡_};
+ghost use mathlib.Core.List.{_∷_};
+ghost use Prim.Native.Nat.{_+_, _*_, _≤_, _<_, min};
+ghost use lib.ListN.{length, getD};
+ghost use Rattle.laws.specs.Lists.{over, tab};
+ghost use Rattle.paper.specs.Outcome.{leaves};
+ghost use Rattle.tickplume.specs.Face.{Told, buildCall, buildEntries, judgeCall, questionCall, startCall, rowCall, nextCall, countCall};
+use answers::Answer;
+use answers::Counted;
+use answers::Dispatcher;
+use answers::RowTold;
+use answers::Verdict;
+use builder::Built;
+use paper::Engine;
+use paper::Judged;
+
+// ---- words and entries
+
+// A refusal as a word.
+fn refusal(number: u32, place: usize) -> u64
+    requires { ⌜ (number < 256) × (place ≤ 4096) ⌝ }
+    ensures { λ r. ⌜ r ≡ number + 256 * place ⌝ }
+{
+    number as u64 + 256 * place as u64
+}
+
+// An entry of a lent state as a row number; one that is too large becomes a number that no row has.
+fn narrow(x: u64) -> u32
+    ensures { λ r. ⌜ r ≡ min x 4294967295 ⌝ }
+{
+    if x < 4294967295 { x as u32 } else { 4294967295 }
+}
+
+// The dispatcher in a lent state.
+fn taken(state: &[u64]) -> Dispatcher
+    requires { ⌜ 33 ≤ length (now state) ⌝ }
+    ensures { λ r. ⌜ (r .block ≡ getD (now (state .entry)) 0 0) × (r .rows ≡ tab 32 (λ e. min (getD (now (state .entry)) (e + 1) 0) 4294967295)) ⌝ }
+{
+    let mut rows = [0u32; 32];
+    let mut e = 0;
+    while e < 32 {
+        rows[e] = narrow(state[e + 1]);
+        e += 1;
+    }
+    Dispatcher {
+        block: state[0],
+        rows,
+    }
+}
+
+// The dispatcher put into a lent state: the block, then the rows.
+fn put(state: &mut [u64], d: Dispatcher)
+    requires { ⌜ 33 ≤ length (now state) ⌝ }
+    ensures { λ r. ⌜ now (state .exit) ≡ over (d .block ∷ d .rows) (now (state .entry)) ⌝ }
+{
+    let rows = d.rows;
+    state[0] = d.block;
+    let mut e = 0;
+    while e < 32 {
+        state[e + 1] = rows[e] as u64;
+        e += 1;
+    }
+}
+
+// ---- the calls
+
+// SA1's plan of the duties, into the lent table.
+#[no_mangle]
+pub extern "C" fn tickplume_build(
+    engines: u32,
+    services: &[u32],
+    periods: &[u32],
+    table: &mut [u8],
+    answer: &mut [u64],
+) -> u64
+    ensures { λ r. ⌜ Told (buildEntries (buildCall engines (now (services .entry)) (now (periods .entry)) (now (table .entry)) (now (answer .entry)))) r (now (answer .entry)) (now (answer .exit)) ⌝ }
+    ensures { λ r. ⌜ now (table .exit) ≡ leaves (buildCall engines (now (services .entry)) (now (periods .entry)) (now (table .entry)) (now (answer .entry))) (now (table .entry)) ⌝ }
+{
+    if answer.len() < 1 {
+        return refusal(255, 1);
+    }
+    match builder::build(engines, services, periods, table) {
+        Built::Refused(number, place) => refusal(number, place),
+        Built::Length(length) => {
+            answer[0] = length as u64;
+            0
+        }
+    }
+}
+
+// The reading of any bytes, or the fault.
+#[no_mangle]
+pub extern "C" fn tickplume_judge(table: &[u8], answer: &mut [u64]) -> u64
+    ensures { λ r. ⌜ Told (judgeCall (now (table .entry)) (now (answer .entry))) r (now (answer .entry)) (now (answer .exit)) ⌝ }
+{
+    if answer.len() < 4 {
+        return refusal(255, 4);
+    }
+    match judge::judge(table) {
+        Judged::Bad(fault) => refusal(judge::number_of(fault), judge::place_of(fault)),
+        Judged::Accepted(rd) => {
+            answer[0] = rd.block_length as u64;
+            answer[1] = rd.engines as u64;
+            answer[2] = rd.duties as u64;
+            answer[3] = rd.runs as u64;
+            0
+        }
+    }
+}
+
+// What an engine does at a tick: its row, and the duty or the mark for idle.
+#[no_mangle]
+pub extern "C" fn tickplume_question(
+    table: &[u8],
+    engine: u32,
+    tick: u64,
+    answer: &mut [u64],
+) -> u64
+    ensures { λ r. ⌜ Told (questionCall (now (table .entry)) engine tick (now (answer .entry))) r (now (answer .entry)) (now (answer .exit)) ⌝ }
+{
+    if answer.len() < 2 {
+        return refusal(255, 2);
+    }
+    match answers::question(table, Engine(engine), tick) {
+        Answer::Refused(number, place) => refusal(number, place),
+        Answer::Serves(duty, row) => {
+            answer[0] = row.0 as u64;
+            answer[1] = duty as u64;
+            0
+        }
+        Answer::Idle(row) => {
+            answer[0] = row.0 as u64;
+            answer[1] = 18446744073709551615;
+            0
+        }
+    }
+}
+
+// The dispatcher's state for a block.
+#[no_mangle]
+pub extern "C" fn tickplume_start(table: &[u8], block: u64, state: &mut [u64]) -> u64
+    ensures { λ r. ⌜ Told (startCall (now (table .entry)) block (now (state .entry))) r (now (state .entry)) (now (state .exit)) ⌝ }
+{
+    if state.len() < 33 {
+        return refusal(255, 33);
+    }
+    let done = Dispatcher::start(table, block);
+    let verdict = done.verdict;
+    match verdict {
+        Verdict::Refused(number, place) => refusal(number, place),
+        Verdict::Done => {
+            let next = done.state;
+            put(state, next);
+            0
+        }
+    }
+}
+
+// The row of an engine in the state's block.
+#[no_mangle]
+pub extern "C" fn tickplume_row(table: &[u8], state: &[u64], engine: u32, answer: &mut [u64]) -> u64
+    ensures { λ r. ⌜ Told (rowCall (now (table .entry)) (now (state .entry)) engine (now (answer .entry))) r (now (answer .entry)) (now (answer .exit)) ⌝ }
+{
+    if state.len() < 33 {
+        return refusal(255, 33);
+    }
+    if answer.len() < 1 {
+        return refusal(255, 1);
+    }
+    match taken(state).row(table, Engine(engine)) {
+        RowTold::Refused(number, place) => refusal(number, place),
+        RowTold::At(row) => {
+            answer[0] = row.0 as u64;
+            0
+        }
+    }
+}
+
+// The state of the next block, in the place of this one.
+#[no_mangle]
+pub extern "C" fn tickplume_next(table: &[u8], state: &mut [u64]) -> u64
+    ensures { λ r. ⌜ Told (nextCall (now (table .entry)) (now (state .entry))) r (now (state .entry)) (now (state .exit)) ⌝ }
+{
+    if state.len() < 33 {
+        return refusal(255, 33);
+    }
+    let done = taken(state).next(table);
+    let verdict = done.verdict;
+    match verdict {
+        Verdict::Refused(number, place) => refusal(number, place),
+        Verdict::Done => {
+            let next = done.state;
+            put(state, next);
+            0
+        }
+    }
+}
+
+// The loads of the first blocks.
+#[no_mangle]
+pub extern "C" fn tickplume_count(table: &[u8], blocks: u64, answer: &mut [u64]) -> u64
+    ensures { λ r. ⌜ Told (countCall (now (table .entry)) blocks (now (answer .entry))) r (now (answer .entry)) (now (answer .exit)) ⌝ }
+{
+    if answer.len() < 1 {
+        return refusal(255, 1);
+    }
+    match answers::count(table, blocks) {
+        Counted::Refused(number, place) => refusal(number, place),
+        Counted::Loads(loads) => {
+            answer[0] = loads;
+            0
+        }
+    }
+}
