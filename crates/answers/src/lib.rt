@@ -176,10 +176,12 @@ fn tell(b: &[u8], rd: Reading, s: Dispatcher, engine: Engine) -> RowTold
     requires { ⌜ Ready (now b) rd ⌝ }
     ensures { λ r. ⌜ rowAs r ≡ rowBy (tableOf (now (b .entry)) rd) (stateAs s) engine ⌝ }
 {
-    if rd.engines <= engine.0 {
+    let known = engine.0 < rd.engines;
+    let own = is_own(b, rd, s);
+    if !known {
         return RowTold::Refused(18, 0);
     }
-    if !is_own(b, rd, s) {
+    if !own {
         return RowTold::Refused(20, 0);
     }
     RowTold::At(row_of(b, rd, engine, s.block))

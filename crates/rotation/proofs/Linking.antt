@@ -28,7 +28,7 @@ use Rattle.paper.proofs.Chains.{in-chain, row-reduced}
 use Rattle.paper.proofs.Links.{link-is}
 use Rattle.paper.proofs.Loads.{carries, carried}
 use Rattle.rotation.specs.Readable.{Readable, tableOf}
-use Rattle.rotation.specs.Edges.{code, edgeAt, startsOf, endsOf, sameCode, linkOf, IsLast, carriesOf, carriedOf}
+use Rattle.rotation.specs.Edges.{code, edgeAt, startsOf, endsOf, sameCode, linkOf, IsLast, round, carriesOf, carriedOf}
 use Rattle.rotation.proofs.Reading.{runs-length, run-at, table-runs, table-engines}
 
 -- one duty holds both exactly where the two codes are the same and not idle's
@@ -131,7 +131,7 @@ carried-read {b} {rd} g p q = rw (p, q, ← table-engines g) (carried-code (tabl
 
 -- the row that an engine runs, by the first and the last row of its chain: no large number is added
 pub row-by-ends : (c : ℕ → Bool) (b : ℕ) {e first last : ℕ} → first ≡ firstOf c e → IsLast c e last
-    → row (first + (e - first + b % (last + 1 - first)) % (last + 1 - first)) ≡ rowAt c b (engine e)
+    → round first last e b ≡ rowAt c b (engine e)
 row-by-ends c b {e} {first} {last} p i =
     let z = row-reduced c b (in-chain c (i .after) (i .chained) (i .ends)) in
     ap row (rw p (sym z))

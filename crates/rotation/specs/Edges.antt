@@ -1,5 +1,5 @@
 -- The edges of a block, by row: which duty holds the first unit and which the last. The links of a table need no more of its runs.
-use Prim.Native.Nat.{ℕ, suc, _+_, _-_, _≤_}
+use Prim.Native.Nat.{ℕ, _+_, _-_, _%_, _≤_}
 use mathlib.Core.Path.{_≡_}
 use mathlib.Core.Bool.{Bool, false, not, _&&_}
 use mathlib.Core.List.{List}
@@ -8,6 +8,7 @@ use lib.ListN.{getD}
 use Rattle.laws.specs.Choice.{one-if}
 use Rattle.laws.specs.Lists.{tab}
 use Rattle.laws.specs.Sum.{sumTo}
+use Rattle.paper.specs.declared.Row.{Row}
 use Rattle.paper.specs.declared.Run.{Run}
 use Rattle.paper.specs.declared.Held.{Held}
 use Rattle.paper.specs.declared.Held.the-variants.{Idle, By}
@@ -43,6 +44,10 @@ pub record IsLast (c : ℕ → Bool) (r to : ℕ) : Type 0 where
   pub most : to ≤ 32
   pub chained : firstOf c to ≡ firstOf c r
   pub ends : c to ≡ false
+
+-- the row b places further round the chain from its first to its last row than row r
+abbrev pub round : ℕ → ℕ → ℕ → ℕ → Row
+round first last r b = row (first + (r - first + b % (last + 1 - first)) % (last + 1 - first))
 
 -- the duty at the end of row r goes on at unit 0 of the next row of r's engine
 unfoldable pub carriesOf : List ℕ → List ℕ → ℕ → Bool

@@ -8,7 +8,7 @@ ghost use Rattle.paper.specs.Words.{stop, covers, runAt, heldIn, row};
 ghost use Rattle.paper.specs.Bytes.{mostTicks};
 ghost use Rattle.paper.specs.Rotation.{firstOf, rowAt, link};
 ghost use Rattle.rotation.specs.Readable.{Readable, IsRun, runsIn, tableOf};
-ghost use Rattle.rotation.specs.Edges.{startsOf, endsOf, sameCode, linkOf, IsLast, carriesOf, carriedOf};
+ghost use Rattle.rotation.specs.Edges.{startsOf, endsOf, sameCode, linkOf, IsLast, round, carriesOf, carriedOf};
 use paper::Engine;
 use paper::Held;
 use paper::Reading;
@@ -157,18 +157,26 @@ pub fn chain_last(starts: &[u32; 33], ends: &[u32; 33], row: Row) -> Row
     Row(r)
 }
 
+// The row that stands so many places further round a chain, from its first row to its last and round again.
+fn further(first: Row, last: Row, row: Row, places: u64) -> Row
+    requires { ⌜ (first .0 ≤ row .0) × (row .0 ≤ last .0) × (last .0 ≤ 32) ⌝ }
+    ensures { λ r. ⌜ r ≡ round (first .0) (last .0) (row .0) places ⌝ }
+{
+    let length = last.0 + 1 - first.0;
+    let on = (places % length as u64) as u32;
+    Row(first.0 + (row.0 - first.0 + on) % length)
+}
+
 // The row that an engine runs in a block: in block 0 the row of its own number, and with each block one place further
 // round that row's chain. Here alone an engine is turned into a row.
 pub fn row_in(starts: &[u32; 33], ends: &[u32; 33], engine: Engine, block: u64) -> Row
     requires { ⌜ engine .0 ≤ 32 ⌝ }
     ensures { λ r. ⌜ r ≡ rowAt (linkOf (now (starts .entry)) (now (ends .entry))) block engine ⌝ }
 {
-    let home = engine.0;
-    let first = chain_first(starts, ends, Row(home)).0;
-    let last = chain_last(starts, ends, Row(home)).0;
-    let length = last + 1 - first;
-    let places = (block % length as u64) as u32;
-    Row(first + (home - first + places) % length)
+    let home = Row(engine.0);
+    let first = chain_first(starts, ends, home);
+    let last = chain_last(starts, ends, home);
+    further(first, last, home, block)
 }
 
 // The same, of table bytes.
