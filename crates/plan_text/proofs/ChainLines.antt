@@ -39,7 +39,7 @@ unfolding chainsBelow flat
 chained-start c m l = record { within = omega arith; begins = first-zero c; long = refl; most = omega arith; wrote = written [] l l 0 (sym (over-nothing l)) refl }
 
 -- a chain's line has at most 12 bytes
-pub chain-most : (from n : ℕ) → from ≤ 32 → n ≤ 32 → length (lineOf from n) ≤ 12
+pub chain-most : (from n : ℕ) → from < 100 → n < 100 → length (lineOf from n) ≤ 12
 chain-most from n h l = omega (arith, line-most 1 chainWord (from ∷ n ∷ []) (omega arith, (omega arith, tt)))
 
 module _ (c : ℕ → Bool) (m : ℕ) (few : m ≤ 32) (closed : firstOf c m ≡ m) {l xs : List ℕ} {at k to : ℕ} (s : Chained c m l xs at k) (h : k < m) (e : IsLast c k to) where
@@ -58,10 +58,6 @@ module _ (c : ℕ → Bool) (m : ℕ) (few : m ≤ 32) (closed : firstOf c m ≡
       ap (flat chainLine) (chains-more c m chain-here last-below)
       ∙ flat-append chainLine (chainsBelow c m k) (record { first = k; length = to + 1 - k } ∷ [])
       ∙ ap (λ (t : List ℕ). linesBelow c m k ++ t) (append-nil (lineOf k (to + 1 - k)))
-
-  -- its line has room where 12 bytes are for each row
-  pub chained-room : at + length (lineOf k (to + 1 - k)) ≤ 12 * m
-  chained-room = omega (arith, s .most, last-below, chain-most k (to + 1 - k) (omega arith) (omega (arith, last-below)))
 
   pub chained-more : (ys : List ℕ) (n : ℕ) → n ≡ length (lineOf k (to + 1 - k)) → ys ≡ over (lineOf k (to + 1 - k)) (take (length xs - at) (drop at xs))
       → length (take at xs ++ (ys ++ drop (length xs - at) (drop at xs))) ≡ length l

@@ -65,8 +65,8 @@ runs-most b rd F =
         let D : length (t .duties) ≤ 64 = table-ranged b rd F .duties-most in
         omega (arith, line-most 6 runWord (x .row .0 ∷ x .duty ∷ x .first ∷ x .length ∷ []) (omega (arith, r), (omega (arith, r), (omega (arith, r), (omega (arith, r), tt)))))
 
-pub loads-most : (runs k : ℕ) → runs ≤ 128 → length (printLine loadsWord (runs ∷ (runs - k) ∷ [])) ≤ 22
-loads-most runs k h = omega (arith, line-most 6 loadsWord (runs ∷ (runs - k) ∷ []) (omega arith, (omega arith, tt)))
+pub loads-most : (x y : ℕ) → x ≤ 128 → y ≤ 128 → length (printLine loadsWord (x ∷ y ∷ [])) ≤ 22
+loads-most x y h l = omega (arith, line-most 6 loadsWord (x ∷ y ∷ []) (omega arith, (omega arith, tt)))
 
 -- ---- what they are
 

@@ -1,7 +1,7 @@
 // A plan as text: a line for the plan, one for each duty, run and chain, and one for the loads.
 ghost use mathlib.Core.Path.{_≡_};
 ghost use mathlib.Core.List.{[], _∷_};
-ghost use Prim.Native.Nat.{_+_, _-_, _*_, _≤_};
+ghost use Prim.Native.Nat.{_*_, _≤_, _<_};
 ghost use lib.ListN.{length};
 ghost use Rattle.laws.specs.Lists.{flat};
 ghost use Rattle.paper.specs.Bytes.{mostTicks};
@@ -90,8 +90,9 @@ fn put_runs(out: &mut [u8], b: &[u8], rd: Reading) -> usize
 
 // A chain: first row, length.
 fn put_chain(out: &mut [u8], first: u32, rows: u32) -> usize
-    requires { ⌜ length (printLine chainWord (first ∷ rows ∷ [])) ≤ length (now out) ⌝ }
+    requires { ⌜ (first < 100) × (rows < 100) × (12 ≤ length (now out)) ⌝ }
     ensures { λ r. ⌜ Puts (printLine chainWord (first ∷ rows ∷ [])) (now (out .entry)) (now (out .exit)) r ⌝ }
+    ensures { λ r. ⌜ r ≤ 12 ⌝ }
 {
     let numbers = [first as u64, rows as u64];
     put_line(out, b"chain", &numbers)
@@ -114,13 +115,13 @@ fn put_chains(out: &mut [u8], starts: &[u32; 33], ends: &[u32; 33], engines: u32
     at
 }
 
-// The loads: in block 0 as many as runs, in each later block fewer by what is carried over a boundary.
-fn put_loads(out: &mut [u8], runs: u32, carried: u32) -> usize
-    requires { ⌜ (carried ≤ runs) × (runs ≤ 128) × (22 ≤ length (now out)) ⌝ }
-    ensures { λ r. ⌜ Puts (printLine loadsWord (runs ∷ (runs - carried) ∷ [])) (now (out .entry)) (now (out .exit)) r ⌝ }
+// The loads: in block 0, in each later block.
+fn put_loads(out: &mut [u8], first: u32, later: u32) -> usize
+    requires { ⌜ (first ≤ 128) × (later ≤ 128) × (22 ≤ length (now out)) ⌝ }
+    ensures { λ r. ⌜ Puts (printLine loadsWord (first ∷ later ∷ [])) (now (out .entry)) (now (out .exit)) r ⌝ }
     ensures { λ r. ⌜ r ≤ 22 ⌝ }
 {
-    let numbers = [runs as u64, (runs - carried) as u64];
+    let numbers = [first as u64, later as u64];
     put_line(out, b"loads", &numbers)
 }
 
@@ -146,7 +147,8 @@ fn put_table(out: &mut [u8], b: &[u8], rd: Reading) -> usize
     runs + put_runs(&mut out[runs..], b, rd)
 }
 
-// What follows from the table: chains and loads.
+// What follows from the table: chains and loads. Each run is a load in block 0; in a later block the duties that are
+// kept over the boundary are none.
 fn put_rotation(out: &mut [u8], b: &[u8], rd: Reading) -> usize
     requires { ⌜ Formed (now b) rd ⌝ }
     requires { ⌜ Ready (now b) rd ⌝ }
@@ -158,7 +160,9 @@ fn put_rotation(out: &mut [u8], b: &[u8], rd: Reading) -> usize
     let starts = e.starts;
     let ends = e.ends;
     let at = put_chains(out, &starts, &ends, rd.engines);
-    at + put_loads(&mut out[at..], rd.runs, carried(&starts, &ends, rd.engines))
+    let runs = rd.runs;
+    let kept = carried(&starts, &ends, rd.engines);
+    at + put_loads(&mut out[at..], runs, runs - kept)
 }
 
 // The text of a plan whose bytes are in good form and meet the rules.

@@ -6,7 +6,7 @@ use borrow.Author.Needs.{needs}
 use native.Mathlib.Omega.{arith}
 use Rattle.laws.proofs.Writing.{length-lent}
 use Rattle.rotation.specs.Edges.{linkOf}
-use Rattle.plan_text.proofs.ChainLines.{Chained, chained-start, chained-room, chained-more, chained-end}
+use Rattle.plan_text.proofs.ChainLines.{Chained, chained-start, chained-more, chained-end}
 use Rattle.plan_text.proofs.put_chains.Statement.{statement}
 use Rattle.plan_text.proofs.put_chains.Tie as tie
 
@@ -38,16 +38,16 @@ sub-put-chain-2 : tie.Need-sub-put-chain-2 Inv-loop μ-loop
 sub-put-chain-2 c = search needs
 
 put-chain-requires : tie.Need-put-chain-requires Inv-loop μ-loop
-put-chain-requires c κs = rw length-lent (omega (arith, chained-room (linkOf (c .before .before .before .before .before .before .args .starts .now) (c .before .before .before .before .before .before .args .ends .now)) (c .before .before .before .before .before .before .args .engines) (search needs) (c .before .before .before .before .before .before .pre .1) (c .before .before .before .before .loop .inv) (search needs) (c .before .before .chain-last .ensures)))
+put-chain-requires c κs = (search needs, search needs, rw length-lent (search needs))
 
 add-at : tie.Need-add-at Inv-loop μ-loop
-add-at c = omega (arith, chained-room (linkOf (c .before .before .before .before .before .before .before .before .before .args .starts .now) (c .before .before .before .before .before .before .before .before .before .args .ends .now)) (c .before .before .before .before .before .before .before .before .before .args .engines) (search needs) (c .before .before .before .before .before .before .before .before .before .pre .1) (c .before .before .before .before .before .before .before .loop .inv) (search needs) (c .before .before .before .before .before .chain-last .ensures))
+add-at c = search needs
 
 loop-less : tie.Need-loop-less Inv-loop μ-loop
 loop-less c = search needs
 
 loop-again : tie.Need-loop-again Inv-loop μ-loop
-loop-again c = chained-more (linkOf (c .before .before .before .before .before .before .before .before .before .args .starts .now) (c .before .before .before .before .before .before .before .before .before .args .ends .now)) (c .before .before .before .before .before .before .before .before .before .args .engines) (search needs) (c .before .before .before .before .before .before .before .before .before .pre .1) (c .before .before .before .before .before .before .before .loop .inv) (search needs) (c .before .before .before .before .before .chain-last .ensures) _ _ (c .before .before .put-chain .ensures .0) (c .before .before .put-chain .ensures .1) (search needs)
+loop-again c = chained-more (linkOf (c .before .before .before .before .before .before .before .before .before .args .starts .now) (c .before .before .before .before .before .before .before .before .before .args .ends .now)) (c .before .before .before .before .before .before .before .before .before .args .engines) (search needs) (c .before .before .before .before .before .before .before .before .before .pre .1) (c .before .before .before .before .before .before .before .loop .inv) (search needs) (c .before .before .before .before .before .chain-last .ensures) _ _ (c .before .before .put-chain .ensures .0 .0) (c .before .before .put-chain .ensures .0 .1) (search needs)
 
 same-length : tie.Need-same-length Inv-loop μ-loop
 same-length c = search needs

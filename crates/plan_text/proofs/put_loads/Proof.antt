@@ -8,12 +8,6 @@ use borrow.Author.Needs.{needs}
 use Rattle.plan_text.proofs.put_loads.Statement.{statement}
 use Rattle.plan_text.proofs.put_loads.Tie as tie
 
-sub-t7 : tie.Need-sub-t7
-sub-t7 c = search needs
-
-cast-t8 : tie.Need-cast-t8
-cast-t8 c = search needs
-
 slice-aggregate-put-line : tie.Need-slice-aggregate-put-line
 slice-aggregate-put-line c = search needs
 
@@ -21,20 +15,18 @@ slice-aggregate-put-line-2 : tie.Need-slice-aggregate-put-line-2
 slice-aggregate-put-line-2 c = search needs
 
 put-line-requires : tie.Need-put-line-requires
-put-line-requires c κs = omega (arith, loads-most (c .before .before .before .before .args .runs) (c .before .before .before .before .args .carried) (search needs))
+put-line-requires c κs = omega (arith, loads-most (c .before .before .before .before .args .first) (c .before .before .before .before .args .later) (search needs) (search needs))
 
 same-length : tie.Need-same-length
 same-length c = search needs
 
 returns : tie.Need-returns
-returns c = (c .before .before .put-line .ensures, omega (arith, c .before .before .put-line .ensures .0, loads-most (c .before .before .before .before .before .before .before .args .runs) (c .before .before .before .before .before .before .before .args .carried) (search needs)))
+returns c = (c .before .before .put-line .ensures, omega (arith, c .before .before .put-line .ensures .0, loads-most (c .before .before .before .before .before .before .before .args .first) (c .before .before .before .before .before .before .before .args .later) (search needs) (search needs)))
 
 pub put-loads-spec : {M : Type 1} → statement M
 put-loads-spec =
     tie.close
     (tie.spec
-    sub-t7
-    cast-t8
     slice-aggregate-put-line
     slice-aggregate-put-line-2
     put-line-requires
