@@ -26,6 +26,12 @@ for program in simulator simulator++; do
 done
 
 (cd rust && cargo test --offline --release -q 2>&1) || exit 1
+for program in boundaries stretches; do
+    (cd rust && cargo run --offline --release -q --example "$program") | diff -u "tests/expected/$program" - || {
+        echo "other output of $program"
+        exit 1
+    }
+done
 (cd rust && cargo run --offline --release -q --example compare) || exit 1
 for error in backwards one-ring never; do
     if (cd rust && cargo run --offline --release -q --example compare -- --plant "$error") >"$build/planted"; then

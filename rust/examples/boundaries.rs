@@ -158,7 +158,7 @@ fn faults() {
             h.runs[0].3 = 2;
             h.runs.insert(1, (0, 0, 2, 2));
         }),
-        ("16", |h| h.runs[2].3 = 5),
+        ("16", |h| h.runs[3] = (1, 1, 5, 1)),
         ("17", |h| h.runs[3].3 = 2),
     ];
     for (name, fault) in each {

@@ -6,7 +6,7 @@ use mathlib.Core.Path.{_≡_, refl, sym, ap, _∙_}
 use mathlib.Core.List.{List, [], _∷_}
 use native.Mathlib.Omega.{arith}
 use borrow.Author.Tests.{le-ltb}
-use lib.ListN.{length, take, drop}
+use lib.ListN.{length, take, drop, length-append}
 use lib.Seq.{take-at}
 use Rattle.laws.specs.Lists.{over}
 use Rattle.paper.specs.Words.{Table}
@@ -78,3 +78,9 @@ front-of (answer w) n l xs e h =
 pub refused-of : (o : Outcome (List ℕ)) (k p : ℕ) → _≡_ {A = Outcome ℕ} (refused k p) (lengthOf o) → o ≡ refused k p
 refused-of (refused j q) k p e = let r = refused-one {A = ℕ} k p j q e in rw (r .0, r .1)
 refused-of (answer w) k p e = answered (length w) k p (sym e)
+
+-- ---- what was put is no longer than the buffer
+
+pub puts-fits : (w l xs : List ℕ) (n : ℕ) → Puts w l xs n → n ≤ length xs
+unfolding over
+puts-fits w l xs n p = omega (arith, p .0, ap length (p .1), length-append w (drop (length w) l))
