@@ -1,3 +1,4 @@
 pub mod ChainLines
 pub mod PlanText
 pub mod Fitting
+pub mod Unique
