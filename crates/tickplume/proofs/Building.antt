@@ -8,7 +8,11 @@ use borrow.Author.Tests.{lt-ltb, le-ltb}
 use Rattle.laws.specs.Lists.{over}
 use Rattle.paper.specs.Outcome.{Outcome, refused, answer, lengthOf, leaves}
 use Rattle.paper.specs.Builder.{build}
+use Rattle.paper.proofs.Listed.{build-listed}
 use Rattle.paper.proofs.Outcomes.{answered, answer-one, refused-one}
+use Rattle.builder.specs.declared.Built.{Built}
+use Rattle.builder.specs.declared.Built.the-variants.{Length, Refused}
+use Rattle.builder.specs.Built.{builtAs}
 use Rattle.tickplume.specs.Face.{Told, buildCall, buildEntries}
 use Rattle.tickplume.proofs.Stored.{stored-one}
 
@@ -17,9 +21,15 @@ abbrev pub Left : Outcome (List ℕ) → ℕ → List ℕ → List ℕ → List 
 Left o word table table′ lent lent′ = Told (buildEntries o) word lent lent′ × (table′ ≡ leaves o table)
 
 -- a refusal of a length is the refusal
-pub length-refused : (o : Outcome (List ℕ)) (n p : ℕ) → lengthOf o ≡ refused n p → o ≡ refused n p
+length-refused : (o : Outcome (List ℕ)) (n p : ℕ) → lengthOf o ≡ refused n p → o ≡ refused n p
 length-refused (refused k q) n p e = let z = refused-one k q n p e in rw (z .0, z .1)
 length-refused (answer w) n p e = answered (length w) n p e
+
+-- a refusal of the builder has a number that fits a byte, and a place within a table
+pub build-fits : (m : ℕ) (ss ps : List ℕ) (room n p : ℕ) {r : Built} → builtAs r ≡ lengthOf (build m ss ps room) → r ≡ Refused n p → (n < 256) × (p ≤ 4096)
+build-fits m ss ps room n p e q =
+    let z = build-listed m ss ps room n p (length-refused (build m ss ps room) n p (sym e ∙ ap builtAs q)) in
+    (z .byte, z .place)
 
 -- the builder refused
 left-refused : (o : Outcome (List ℕ)) (n p word : ℕ) (table table′ lent : List ℕ) → lengthOf o ≡ refused n p → table′ ≡ leaves o table → word ≡ n + 256 * p → Left o word table table′ lent lent
@@ -37,12 +47,14 @@ pub build-short : (m : ℕ) (ss ps table lent : List ℕ) (word : ℕ) → lengt
 unfolding buildCall
 build-short m ss ps table lent word h w = rw (lt-ltb (length lent) 1 h) (record { said = w; left = refl }, refl)
 
-pub build-refused : (m : ℕ) (ss ps table table′ lent : List ℕ) (n p word : ℕ) → 1 ≤ length lent → lengthOf (build m ss ps (length table)) ≡ refused n p → table′ ≡ leaves (build m ss ps (length table)) table → word ≡ n + 256 * p → Left (buildCall m ss ps table lent) word table table′ lent lent
+pub build-refused : (m : ℕ) (ss ps table table′ lent : List ℕ) (n p word : ℕ) {r : Built} → 1 ≤ length lent → builtAs r ≡ lengthOf (build m ss ps (length table)) → r ≡ Refused n p
+    → table′ ≡ leaves (build m ss ps (length table)) table → word ≡ n + 256 * p → Left (buildCall m ss ps table lent) word table table′ lent lent
 unfolding buildCall
-build-refused m ss ps table table′ lent n p word l e h w =
-    rw (le-ltb (length lent) 1 l) (left-refused (build m ss ps (length table)) n p word table table′ lent e h w)
+build-refused m ss ps table table′ lent n p word l e q h w =
+    rw (le-ltb (length lent) 1 l) (left-refused (build m ss ps (length table)) n p word table table′ lent (sym e ∙ ap builtAs q) h w)
 
-pub build-answer : (m : ℕ) (ss ps table table′ lent : List ℕ) (k : ℕ) → 1 ≤ length lent → lengthOf (build m ss ps (length table)) ≡ answer k → table′ ≡ leaves (build m ss ps (length table)) table → Left (buildCall m ss ps table lent) 0 table table′ lent (set lent 0 k)
+pub build-answer : (m : ℕ) (ss ps table table′ lent : List ℕ) (k : ℕ) {r : Built} → 1 ≤ length lent → builtAs r ≡ lengthOf (build m ss ps (length table)) → r ≡ Length k
+    → table′ ≡ leaves (build m ss ps (length table)) table → Left (buildCall m ss ps table lent) 0 table table′ lent (set lent 0 k)
 unfolding buildCall
-build-answer m ss ps table table′ lent k l e h =
-    rw (le-ltb (length lent) 1 l) (left-answer (build m ss ps (length table)) k table table′ lent e h l)
+build-answer m ss ps table table′ lent k l e q h =
+    rw (le-ltb (length lent) 1 l) (left-answer (build m ss ps (length table)) k table table′ lent (sym e ∙ ap builtAs q) h l)

@@ -1,12 +1,8 @@
 -- `tickplume_build`: the builder's answer as a word, or the table's length as one entry; the builder has written the table.
 -- Assumes nothing.
-use mathlib.Core.Path.{sym, ap, _∙_}
 use borrow.Author.Needs.{needs}
 use lib.ListN.{length}
-use Rattle.paper.specs.Builder.{build}
-use Rattle.paper.proofs.Listed.{build-listed}
-use Rattle.builder.specs.Built.{builtAs}
-use Rattle.tickplume.proofs.Building.{length-refused, build-short, build-refused, build-answer}
+use Rattle.tickplume.proofs.Building.{build-fits, build-short, build-refused, build-answer}
 use Rattle.tickplume.proofs.tickplume_build.Statement.{statement}
 use Rattle.tickplume.proofs.tickplume_build.Tie as tie
 
@@ -27,10 +23,7 @@ enum-known-number c = search needs
 refusal-requires-2 : tie.Need-refusal-requires-2
 refusal-requires-2 c κs =
     let args = c .before .before .before .before .before .before .before .before .before .before .before .before .args in
-    let told = sym (c .before .before .before .before .before .build .ensures .0) ∙ ap builtAs (c .before .number .given .1) in
-    let o = build (args .engines) (args .services .now) (args .periods .now) (length (args .table .now)) in
-    let z = build-listed (args .engines) (args .services .now) (args .periods .now) (length (args .table .now)) _ _ (length-refused o _ _ told) in
-    (z .byte, z .place)
+    build-fits (args .engines) (args .services .now) (args .periods .now) (length (args .table .now)) _ _ (c .before .before .before .before .before .build .ensures .0) (c .before .number .given .1)
 
 enum-known-length : tie.Need-enum-known-length
 enum-known-length c = search needs
@@ -45,7 +38,7 @@ returns-2 : tie.Need-returns-2
 returns-2 c =
     let args = c .before .before .before .before .before .before .before .before .before .before .before .before .before .args in
     build-refused (args .engines) (args .services .now) (args .periods .now) (args .table .now) _ (args .answer .now) _ _ _ (search needs)
-    (sym (c .before .before .before .before .before .before .build .ensures .0) ∙ ap builtAs (c .before .before .number .given .1)) (c .before .before .before .before .before .before .build .ensures .1) (c .refusal2 .ensures)
+    (c .before .before .before .before .before .before .build .ensures .0) (c .before .before .number .given .1) (c .before .before .before .before .before .before .build .ensures .1) (c .refusal2 .ensures)
 
 same-length-2 : tie.Need-same-length-2
 same-length-2 c = search needs
@@ -57,7 +50,7 @@ returns-3 : tie.Need-returns-3
 returns-3 c =
     let args = c .before .before .before .before .before .before .before .before .before .before .before .before .args in
     build-answer (args .engines) (args .services .now) (args .periods .now) (args .table .now) _ (args .answer .now) _ (search needs)
-    (sym (c .before .before .before .before .before .build .ensures .0) ∙ ap builtAs (c .before .length .given .1)) (c .before .before .before .before .before .build .ensures .1)
+    (c .before .before .before .before .before .build .ensures .0) (c .before .length .given .1) (c .before .before .before .before .before .build .ensures .1)
 
 pub tickplume-build-spec : {M : Type 1} → statement M
 tickplume-build-spec =

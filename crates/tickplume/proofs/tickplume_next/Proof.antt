@@ -30,9 +30,10 @@ enum-known-verdict c = search needs
 
 refusal-requires-2 : tie.Need-refusal-requires-2
 refusal-requires-2 c κs =
+    let taken = c .before .before .before .before .taken in
     let args = c .before .before .before .before .before .before .before .before .before .args in
     let o = advanced (args .table .now) (stateIn (args .state .now)) in
-    let told = next-asked (args .table .now) (args .state .now) (c .before .before .before .before .taken .result) (c .before .before .before .before .taken .ensures .0) (c .before .before .before .before .taken .ensures .1) (c .before .before .before .next .ensures) in
+    let told = next-asked (args .table .now) (args .state .now) (taken .result) (taken .ensures .0) (taken .ensures .1) (c .before .before .before .next .ensures) in
     let z = next-listed (args .table .now) (stateIn (args .state .now)) _ _ (handed-refused (c .before .before .before .next .result) o _ _ told (c .before .verdict .given .1)) in
     (z .byte, z .place)
 
@@ -48,9 +49,10 @@ same-length c = search needs
 returns-2 : tie.Need-returns-2
 unfolding nextCall
 returns-2 c =
+    let taken = c .before .before .before .before .before .taken in
     let args = c .before .before .before .before .before .before .before .before .before .before .args in
     let o = advanced (args .table .now) (stateIn (args .state .now)) in
-    let told = next-asked (args .table .now) (args .state .now) (c .before .before .before .before .before .taken .result) (c .before .before .before .before .before .taken .ensures .0) (c .before .before .before .before .before .taken .ensures .1) (c .before .before .before .before .next .ensures) in
+    let told = next-asked (args .table .now) (args .state .now) (taken .result) (taken .ensures .0) (taken .ensures .1) (c .before .before .before .before .next .ensures) in
     tell-refused stateEntries o 33 _ _ _ (args .state .now) (search needs) (handed-refused (c .before .before .before .before .next .result) o _ _ told (c .before .before .verdict .given .1)) (c .refusal2 .ensures)
 
 same-length-2 : tie.Need-same-length-2
@@ -59,9 +61,10 @@ same-length-2 c = search needs
 returns-3 : tie.Need-returns-3
 unfolding nextCall
 returns-3 c =
+    let taken = c .before .before .before .before .before .before .before .before .taken in
     let args = c .before .before .before .before .before .before .before .before .before .before .before .before .before .args in
     let o = advanced (args .table .now) (stateIn (args .state .now)) in
-    let told = next-asked (args .table .now) (args .state .now) (c .before .before .before .before .before .before .before .before .taken .result) (c .before .before .before .before .before .before .before .before .taken .ensures .0) (c .before .before .before .before .before .before .before .before .taken .ensures .1) (c .before .before .before .before .before .before .before .next .ensures) in
+    let told = next-asked (args .table .now) (args .state .now) (taken .result) (taken .ensures .0) (taken .ensures .1) (c .before .before .before .before .before .before .before .next .ensures) in
     tell-answer stateEntries o 33 _ (args .state .now) _ (search needs) (handed-done (c .before .before .before .before .before .before .before .next .result) o told (c .before .before .before .before .before .enum-told .given .1)) (c .before .before .put .ensures)
 
 pub tickplume-next-spec : {M : Type 1} → statement M

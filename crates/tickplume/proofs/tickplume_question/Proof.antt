@@ -2,6 +2,7 @@
 -- Assumes nothing.
 use mathlib.Core.Path.{sym, ap, _∙_}
 use borrow.Author.Needs.{needs}
+use lib.ListN.{length-set}
 use Rattle.paper.specs.Words.{engine}
 use Rattle.paper.specs.Answers.{question}
 use Rattle.paper.proofs.Listed.{question-listed}
@@ -46,7 +47,7 @@ cast-answer-2 : tie.Need-cast-answer-2
 cast-answer-2 c = search needs
 
 slice-write-answer-2 : tie.Need-slice-write-answer-2
-slice-write-answer-2 c = search needs
+slice-write-answer-2 c = simp length-set (search needs)
 
 enum-known-row : tie.Need-enum-known-row
 enum-known-row c = search needs

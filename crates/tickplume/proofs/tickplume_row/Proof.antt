@@ -47,8 +47,9 @@ enum-known-number c = search needs
 
 refusal-requires-3 : tie.Need-refusal-requires-3
 refusal-requires-3 c κs =
+    let taken = c .before .before .before .before .taken in
     let args = c .before .before .before .before .before .before .before .before .before .before .args in
-    let told = row-asked (args .table .now) (args .state .now) (engine (args .engine)) (c .before .before .before .before .taken .result) (c .before .before .before .before .taken .ensures .0) (c .before .before .before .before .taken .ensures .1) (c .before .before .before .row .ensures) in
+    let told = row-asked (args .table .now) (args .state .now) (engine (args .engine)) (taken .result) (taken .ensures .0) (taken .ensures .1) (c .before .before .before .row .ensures) in
     let z = row-listed (args .table .now) (stateIn (args .state .now)) (engine (args .engine)) _ _ (sym told ∙ ap rowAs (c .before .number .given .1)) in
     (z .byte, z .place)
 
@@ -64,8 +65,9 @@ slice-write-answer c = search needs
 returns-3 : tie.Need-returns-3
 unfolding rowCall
 returns-3 c =
+    let taken = c .before .before .before .before .before .taken in
     let args = c .before .before .before .before .before .before .before .before .before .before .before .args in
-    let told = row-asked (args .table .now) (args .state .now) (engine (args .engine)) (c .before .before .before .before .before .taken .result) (c .before .before .before .before .before .taken .ensures .0) (c .before .before .before .before .before .taken .ensures .1) (c .before .before .before .before .row .ensures) in
+    let told = row-asked (args .table .now) (args .state .now) (engine (args .engine)) (taken .result) (taken .ensures .0) (taken .ensures .1) (c .before .before .before .before .row .ensures) in
     let o = rowTold (args .table .now) (stateIn (args .state .now)) (engine (args .engine)) in
     tell-next 33 _ (args .state .now) (args .answer .now) (args .answer .now) (search needs)
     (tell-refused (λ (r : Row). r .0 ∷ []) o 1 _ _ _ (args .answer .now) (search needs) (sym told ∙ ap rowAs (c .before .before .number .given .1)) (c .refusal3 .ensures))
@@ -76,8 +78,9 @@ same-length c = search needs
 returns-4 : tie.Need-returns-4
 unfolding rowCall
 returns-4 c =
+    let taken = c .before .before .before .before .before .taken in
     let args = c .before .before .before .before .before .before .before .before .before .before .before .args in
-    let told = row-asked (args .table .now) (args .state .now) (engine (args .engine)) (c .before .before .before .before .before .taken .result) (c .before .before .before .before .before .taken .ensures .0) (c .before .before .before .before .before .taken .ensures .1) (c .before .before .before .before .row .ensures) in
+    let told = row-asked (args .table .now) (args .state .now) (engine (args .engine)) (taken .result) (taken .ensures .0) (taken .ensures .1) (c .before .before .before .before .row .ensures) in
     let o = rowTold (args .table .now) (stateIn (args .state .now)) (engine (args .engine)) in
     tell-next 33 _ (args .state .now) (args .answer .now) _ (search needs)
     (tell-answer (λ (r : Row). r .0 ∷ []) o 1 _ (args .answer .now) _ (search needs) (sym told ∙ ap rowAs (c .before .before .row2 .given .1)) (stored-one _ (args .answer .now) (search needs)))
