@@ -2,7 +2,7 @@
 -- than 64 duties are read, since line 66 is faulty. So no two outcomes have the same answer.
 -- Assumes nothing.
 use Prim.Native.Nat.{ℕ, _+_, _-_, _≤_, _<_}
-use mathlib.Core.Path.{_≡_, refl, sym, ap, _∙_}
+use mathlib.Core.Path.{_≡_, refl, sym, ap, subst, _∙_}
 use mathlib.Core.Bool.{Bool, true, false, not, _&&_}
 use mathlib.Core.List.{List, _∷_}
 use native.Mathlib.Omega.{arith}
@@ -76,3 +76,29 @@ taken-told b = by-cases (ltb mostInput (length b)) (λ p. rw p) (λ p. rw p (tol
 -- equal answers are of bytes that mean the same
 pub taken-one : (a b : List ℕ) → asTaken (input a) ≡ asTaken (input b) → input a ≡ input b
 taken-one a b e = sym (taken-told a) ∙ ap told e ∙ taken-told b
+
+-- no more than 64 duties are read
+abbrev Few : Outcome Input → Type 0
+Few (refused n p) = Unit
+Few (answer i) = length (i .duties) ≤ 64
+
+few-with : (e : ℕ) (o : Outcome (List Duty)) → Told 64 o → Few (withEngines e o)
+few-with e (refused n p) t = tt
+few-with e (answer ds) t = t
+
+few-either : (t : Bool) (o : Outcome Input) (p : ℕ) → Few o → Few (pick t o (refused 9 p))
+few-either true o p f = f
+few-either false o p f = tt
+
+few-lines : (ls : Lines) → Few (inputOf ls)
+unfolding inputOf
+few-lines none = tt
+few-lines (line c ended ls) =
+    few-either (ended && engineLineGood c) (withEngines (enginesRead c) (dutiesFrom 2 ls)) 1 (few-with (enginesRead c) (dutiesFrom 2 ls) (told-from 2 ls))
+
+pub input-few : (b : List ℕ) (i : Input) → input b ≡ answer i → length (i .duties) ≤ 64
+unfolding input
+input-few b i e = by-cases (ltb mostInput (length b)) (λ p. few (refused 9 0) tt (rw p at e)) (λ p. few (inputOf (linesOf b)) (few-lines (linesOf b)) (rw p at e))
+  where
+    few : (o : Outcome Input) → Few o → o ≡ answer i → length (i .duties) ≤ 64
+    few o f q = subst Few q f

@@ -166,7 +166,7 @@ fn put_rotation(out: &mut [u8], b: &[u8], rd: Reading) -> usize
 }
 
 // The text of a plan whose bytes are in good form and meet the rules.
-fn put_text(out: &mut [u8], b: &[u8], rd: Reading) -> usize
+pub fn put_text(out: &mut [u8], b: &[u8], rd: Reading) -> usize
     requires { ⌜ Formed (now b) rd ⌝ }
     requires { ⌜ Ready (now b) rd ⌝ }
     requires { ⌜ 8192 ≤ length (now out) ⌝ }
