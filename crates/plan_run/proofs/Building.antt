@@ -1,12 +1,11 @@
 -- What the builder leaves in a buffer that has room for every table: the plan's bytes, which the judge accepts and reads as the plan, or
 -- nothing and the plan's refusal.
 -- Assumes nothing.
-use Prim.Native.Nat.{ℕ, _+_, _*_, _^_, _≤_, _<_}
+use Prim.Native.Nat.{ℕ, _^_, _≤_, _<_}
 use mathlib.Core.Path.{_≡_, refl, sym, ap, subst, _∙_}
 use mathlib.Core.List.{List, [], _∷_}
 use native.Mathlib.Omega.{arith}
 use lib.ListN.{length, take}
-use Rattle.laws.specs.Lists.{over}
 use Rattle.paper.specs.Words.{Table}
 use Rattle.paper.specs.Outcome.{Outcome, refused, answer, andThen, lengthOf, leaves}
 use Rattle.paper.specs.Bytes.{small, encode}

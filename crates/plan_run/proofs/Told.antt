@@ -1,15 +1,15 @@
 -- What the answer of `read_input` tells of the program.
 -- Assumes nothing.
-use Prim.Native.Nat.{ℕ, _≤_}
+use Prim.Native.Nat.{ℕ}
 use mathlib.Core.Path.{_≡_, refl, sym, ap, _∙_}
-use mathlib.Core.List.{List, [], _∷_, map}
+use mathlib.Core.List.{List, [], _∷_}
 use native.Mathlib.Omega.{arith}
-use lib.ListN.{length, getD, take}
+use lib.ListN.{getD, take}
 use Rattle.laws.specs.Lists.{tab}
 use Rattle.laws.proofs.Lists.{length-tab, map-tab, tab-take}
 use Rattle.paper.specs.declared.Duty.{Duty}
 use Rattle.paper.specs.Words.{duty, dutyAt}
-use Rattle.paper.specs.Outcome.{Outcome, refused, answer, andThen}
+use Rattle.paper.specs.Outcome.{Outcome, refused, answer}
 use Rattle.paper.specs.Builder.{plan}
 use Rattle.paper.specs.Text as text
 use Rattle.paper.specs.Text.{input, program, printed, printLine, refusedWord, servicesOf, periodsOf}

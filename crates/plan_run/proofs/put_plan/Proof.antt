@@ -1,10 +1,6 @@
 -- `put_plan`: the judge decides what is printed.
 -- Assumes nothing.
-use mathlib.Core.Path.{_≡_, refl, sym, ap, _∙_}
-use mathlib.Core.List.{List}
-use Prim.Native.Nat.{ℕ, _≤_}
-use native.Mathlib.Omega.{arith}
-use lib.ListN.{length}
+use mathlib.Core.Path.{sym, ap}
 use Rattle.paper.specs.Text.{printed}
 use Rattle.judge.proofs.Accepted.{accepted-as, accepted-table, refused-as}
 use Rattle.answers.proofs.Judging.{ready}

@@ -1,10 +1,7 @@
 -- `put_planned`: what was built is judged and printed, or the refusal is.
 -- Assumes nothing.
-use mathlib.Core.Path.{_≡_, refl, sym, ap, _∙_}
-use mathlib.Core.List.{List}
-use Prim.Native.Nat.{ℕ, _≤_}
+use mathlib.Core.Path.{sym, ap, _∙_}
 use native.Mathlib.Omega.{arith}
-use lib.ListN.{length}
 use lib.ListN.{take}
 use lib.Seq.{length-take-le}
 use Rattle.paper.specs.Text.{printed}

@@ -1,10 +1,6 @@
 -- `put_refused`: its two numbers have at most 20 digits each.
 -- Assumes nothing.
-use mathlib.Core.Path.{_≡_, refl, sym, ap, _∙_}
-use mathlib.Core.List.{List}
-use Prim.Native.Nat.{ℕ, _≤_}
 use native.Mathlib.Omega.{arith}
-use lib.ListN.{length}
 use Rattle.plan_run.proofs.Building.{refused-most}
 use borrow.Author.Needs.{needs}
 use Rattle.plan_run.proofs.put_refused.Statement.{statement}

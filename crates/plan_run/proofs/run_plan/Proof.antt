@@ -1,10 +1,5 @@
 -- `run_plan`: what was read decides what is printed.
 -- Assumes nothing.
-use mathlib.Core.Path.{_≡_, refl, sym, ap, _∙_}
-use mathlib.Core.List.{List}
-use Prim.Native.Nat.{ℕ, _≤_}
-use native.Mathlib.Omega.{arith}
-use lib.ListN.{length}
 use Rattle.plan_run.proofs.Building.{puts-as}
 use Rattle.plan_run.proofs.Told.{taken-sized, fault-printed, read-printed}
 use borrow.Author.Needs.{needs}
