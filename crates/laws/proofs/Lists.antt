@@ -185,3 +185,10 @@ flat-left f d l k h = rw (add-one, drop-cons l k d) (flat-step f (getD l k d) (d
 
 pub flat-none : {A B : Type 0} (f : A → List B) (l : List A) (k : ℕ) → length l ≤ k → flat f (drop k l) ≡ []
 flat-none f l k h = rw (drop-of-length-le l h) (flat-end f)
+
+-- the first n entries are the table of them
+pub tab-take : (n : ℕ) (l : List ℕ) → n ≤ length l → tab n (λ k. getD l k 0) ≡ take n l
+unfolding tab
+tab-take zero l h = refl
+tab-take (suc n) [] h = absurd (not-suc-le-zero h)
+tab-take (suc n) (x ∷ xs) h = ap (λ (t : List ℕ). x ∷ t) (tab-take n xs (le-of-suc-le-suc h))

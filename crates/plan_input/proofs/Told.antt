@@ -2,7 +2,7 @@
 -- than 64 duties are read, since line 66 is faulty. So no two outcomes have the same answer.
 -- Assumes nothing.
 use Prim.Native.Nat.{ℕ, _+_, _-_, _≤_, _<_}
-use mathlib.Core.Path.{_≡_, refl, sym, ap, _∙_}
+use mathlib.Core.Path.{_≡_, refl, sym, ap, subst, _∙_}
 use mathlib.Core.Bool.{Bool, true, false, not, _&&_}
 use mathlib.Core.List.{List, _∷_}
 use native.Mathlib.Omega.{arith}
@@ -77,8 +77,7 @@ taken-told b = by-cases (ltb mostInput (length b)) (λ p. rw p) (λ p. rw p (tol
 pub taken-one : (a b : List ℕ) → asTaken (input a) ≡ asTaken (input b) → input a ≡ input b
 taken-one a b e = sym (taken-told a) ∙ ap told e ∙ taken-told b
 
--- ---- at most 64 duties are read
-
+-- no more than 64 duties are read
 abbrev Few : Outcome Input → Type 0
 Few (refused n p) = Unit
 Few (answer i) = length (i .duties) ≤ 64
@@ -97,13 +96,9 @@ few-lines none = tt
 few-lines (line c ended ls) =
     few-either (ended && engineLineGood c) (withEngines (enginesRead c) (dutiesFrom 2 ls)) 1 (few-with (enginesRead c) (dutiesFrom 2 ls) (told-from 2 ls))
 
-few-input : (b : List ℕ) → Few (input b)
+pub input-few : (b : List ℕ) (i : Input) → input b ≡ answer i → length (i .duties) ≤ 64
 unfolding input
-few-input b = by-cases (ltb mostInput (length b)) (λ p. rw p tt) (λ p. rw p (few-lines (linesOf b)))
-
-few-taken : (o : Outcome Input) → Few o → asTaken o .input .duties ≤ 64
-few-taken (refused n p) f = omega arith
-few-taken (answer i) f = f
-
-pub taken-few : (b : List ℕ) → asTaken (input b) .input .duties ≤ 64
-taken-few b = few-taken (input b) (few-input b)
+input-few b i e = by-cases (ltb mostInput (length b)) (λ p. few (refused 9 0) tt (rw p at e)) (λ p. few (inputOf (linesOf b)) (few-lines (linesOf b)) (rw p at e))
+  where
+    few : (o : Outcome Input) → Few o → o ≡ answer i → length (i .duties) ≤ 64
+    few o f q = subst Few q f

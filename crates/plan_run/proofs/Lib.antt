@@ -1,2 +1,2 @@
-pub mod Printing
-pub mod Read
+pub mod Building
+pub mod Told

@@ -1,71 +1,67 @@
-// The plan program from its input to its output: the text is read, the duties are planned, and the plan or the refusal is
-// printed.
-ghost use mathlib.Core.Path.{_≡_};
-ghost use mathlib.Core.List.{_∷_, []};
+// The plan program, from what it reads to what it prints.
+ghost use mathlib.Core.List.{[], _∷_};
 ghost use Prim.Native.Nat.{_≤_};
-ghost use lib.ListN.{length};
+ghost use lib.ListN.{length, take};
 ghost use Rattle.paper.specs.Builder.{plan};
 ghost use Rattle.paper.specs.Rules.{accepted};
 ghost use Rattle.paper.specs.Text.{printLine, refusedWord, printed, program};
 ghost use Rattle.print_lines.specs.Puts.{Puts};
+ghost use Rattle.plan_run.specs.Sized.{Sized};
 use builder::Built;
 use builder::build;
 use judge::judge;
 use judge::number_of;
 use judge::place_of;
 use paper::Judged;
+use plan_input::Input;
 use plan_input::Verdict;
 use plan_input::read_input;
 use plan_text::put_text;
 use print_lines::put_line;
 
-// A refusal's line.
-fn put_refusal(out: &mut [u8], number: u32, place: usize) -> usize
-    requires { ⌜ 8192 ≤ length (now out) ⌝ }
+// A refusal: number, place.
+fn put_refused(out: &mut [u8], number: u32, place: usize) -> usize
+    requires { ⌜ 50 ≤ length (now out) ⌝ }
     ensures { λ r. ⌜ Puts (printLine refusedWord (number ∷ place ∷ [])) (now (out .entry)) (now (out .exit)) r ⌝ }
 {
     let numbers = [number as u64, place as u64];
     put_line(out, b"refused", &numbers)
 }
 
-// The plan in table bytes, or their fault.
-fn put_table(out: &mut [u8], table: &[u8]) -> usize
+// The plan in table bytes, or their refusal.
+fn put_plan(out: &mut [u8], table: &[u8]) -> usize
     requires { ⌜ 8192 ≤ length (now out) ⌝ }
     ensures { λ r. ⌜ Puts (printed (accepted (now (table .entry)))) (now (out .entry)) (now (out .exit)) r ⌝ }
 {
     match judge(table) {
         Judged::Accepted(rd) => put_text(out, table, rd),
-        Judged::Bad(fault) => put_refusal(out, number_of(fault), place_of(fault)),
+        Judged::Bad(fault) => put_refused(out, number_of(fault), place_of(fault)),
     }
 }
 
-// The plan of the duties, or the refusal. The longest table has 1,994 bytes.
-fn put_plan(out: &mut [u8], engines: u32, services: &[u32], periods: &[u32]) -> usize
-    requires { ⌜ 8192 ≤ length (now out) ⌝ }
-    ensures { λ r. ⌜ Puts (printed (plan engines (now (services .entry)) (now (periods .entry)))) (now (out .entry)) (now (out .exit)) r ⌝ }
+// The plan of what was read, or the builder's refusal. Every table has room in 2,048 bytes.
+fn put_planned(out: &mut [u8], given: Input) -> usize
+    requires { ⌜ (8192 ≤ length (now out)) × Sized given ⌝ }
+    ensures { λ r. ⌜ Puts (printed (plan (given .engines) (take (given .duties) (given .services)) (take (given .duties) (given .periods)))) (now (out .entry)) (now (out .exit)) r ⌝ }
 {
-    let mut table = [0u8; 1994];
-    match build(engines, services, periods, &mut table) {
-        Built::Length(n) => put_table(out, &table[..n]),
-        Built::Refused(number, place) => put_refusal(out, number, place),
+    let n = given.duties as usize;
+    let services = given.services;
+    let periods = given.periods;
+    let mut table = [0; 2048];
+    match build(given.engines, &services[..n], &periods[..n], &mut table) {
+        Built::Length(size) => put_plan(out, &table[..size]),
+        Built::Refused(number, place) => put_refused(out, number, place),
     }
 }
 
-// What the program prints for what it reads, over the front of a buffer that is long enough for every plan, and its length.
-pub fn run_plan(input: &[u8], out: &mut [u8]) -> usize
-    requires { ⌜ 8192 ≤ length (now out) ⌝ }
+// Runs the program on what it reads. What it prints is over the front of the buffer; the answer is its length.
+pub fn run_plan(input: &[u8], out: &mut [u8; 8192]) -> usize
     ensures { λ r. ⌜ Puts (program (now (input .entry))) (now (out .entry)) (now (out .exit)) r ⌝ }
 {
     let taken = read_input(input);
     let verdict = taken.verdict;
     match verdict {
-        Verdict::Fault(line) => put_refusal(out, 9, line),
-        Verdict::Read => {
-            let read = taken.input;
-            let n = read.duties as usize;
-            let services = read.services;
-            let periods = read.periods;
-            put_plan(out, read.engines, &services[..n], &periods[..n])
-        }
+        Verdict::Read => put_planned(out, taken.input),
+        Verdict::Fault(line) => put_refused(out, 9, line),
     }
 }

@@ -11,7 +11,7 @@ use lib.ListN.{length, take, drop}
 use Rattle.laws.specs.Lists.{flat, over}
 use Rattle.laws.proofs.Lists.{flat-append}
 use Rattle.laws.proofs.Writing.{Wrote, written, grown, all-written, over-nothing}
-use Rattle.paper.specs.Rotation.{Chain, firstOf, chainsBelow}
+use Rattle.paper.specs.Rotation.{firstOf, chainsBelow}
 use Rattle.paper.specs.Text.{printLine, chainWord, chainLine}
 use Rattle.paper.proofs.Rotation.{first-zero, first-cut}
 use Rattle.paper.proofs.Chains.{InChain, in-chain, chain-below, chains-more}

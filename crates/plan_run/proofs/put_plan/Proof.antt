@@ -1,72 +1,60 @@
--- `put_plan`: the builder's bytes are accepted as what was planned; the buffer has room for every table.
+-- `put_plan`: the judge decides what is printed.
 -- Assumes nothing.
-use borrow.Author.Needs.{needs}
-use mathlib.Core.Path.{_≡_, refl, sym, ap, _∙_}
-use native.Mathlib.Omega.{arith}
-use lib.ListN.{length, take}
-use lib.Seq.{length-take-le}
+use mathlib.Core.Path.{sym, ap}
 use Rattle.paper.specs.Text.{printed}
-use Rattle.builder.specs.Built.{builtAs}
-use Rattle.paper.specs.Rules.{accepted}
-use Rattle.paper.proofs.Planned.{built}
-use Rattle.plan_run.proofs.Printing.{puts-as, roomy-refused, built-prints, front-of, refused-of}
+use Rattle.judge.proofs.Accepted.{accepted-as, accepted-table, refused-as}
+use Rattle.answers.proofs.Judging.{ready}
+use Rattle.plan_run.proofs.Building.{puts-as, refused-line}
+use borrow.Author.Needs.{needs}
 use Rattle.plan_run.proofs.put_plan.Statement.{statement}
 use Rattle.plan_run.proofs.put_plan.Tie as tie
 
-slice-aggregate-build : tie.Need-slice-aggregate-build
-slice-aggregate-build c = search needs
+judge-requires : tie.Need-judge-requires
+judge-requires c κs = search needs
 
-build-requires : tie.Need-build-requires
-build-requires c κs = search needs
+enum-known-rd : tie.Need-enum-known-rd
+enum-known-rd c = search needs
 
-enum-known-n : tie.Need-enum-known-n
-enum-known-n c = search needs
+put-text-requires : tie.Need-put-text-requires
+put-text-requires c κs = ((accepted-as _ _ _ (c .before .before .before .before .judge .ensures) (c .before .before .rd .given .1)) .formed, (ready _ (c .before .before .before .before .judge .ensures) (c .before .before .rd .given .1), search needs))
 
-array-share-prefix-table : tie.Need-array-share-prefix-table
-array-share-prefix-table c =
-    let F = front-of _ _ _ _ (ap builtAs (sym (c .before .before .n .given .1)) ∙ c .before .before .before .before .before .build .ensures .0) (c .before .before .before .before .before .build .ensures .1) in
-    omega (arith, built _ _ _ _ _ (F .is) .fits, F .long, c .before .before .before .before .before .build .kept .1 .1 .1 .0)
+enum-known-fault : tie.Need-enum-known-fault
+enum-known-fault c = search needs
 
-slice-aggregate-put-table : tie.Need-slice-aggregate-put-table
-slice-aggregate-put-table c = sym (length-take-le _ _ (array-share-prefix-table (c .before)))
+number-of-requires : tie.Need-number-of-requires
+number-of-requires c κs = search needs
 
-put-table-requires : tie.Need-put-table-requires
-put-table-requires c κs = search needs
+place-of-requires : tie.Need-place-of-requires
+place-of-requires c κs = search needs
 
-enum-known-number : tie.Need-enum-known-number
-enum-known-number c = search needs
-
-put-refusal-requires : tie.Need-put-refusal-requires
-put-refusal-requires c κs = search needs
+put-refused-requires : tie.Need-put-refused-requires
+put-refused-requires c κs = search needs
 
 same-length : tie.Need-same-length
 same-length c = search needs
 
 returns : tie.Need-returns
-returns c =
-    let F = front-of _ _ _ _ (ap builtAs (sym (c .before .before .before .before .before .before .n .given .1)) ∙ c .before .before .before .before .before .before .before .before .before .build .ensures .0) (c .before .before .before .before .before .before .before .before .before .build .ensures .1) in
-    puts-as _ _ _ _ _ (ap (λ b. printed (accepted b)) (F .front) ∙ built-prints _ _ _ _ _ (F .is)) (c .before .before .put-table .ensures)
+returns c = puts-as (c .before .before .before .before .before .before .before .before .before .before .args .out .now) (ap printed (sym (accepted-table (c .before .before .before .before .before .before .before .before .before .before .args .table .now) _ (accepted-as _ _ _ (c .before .before .before .before .before .before .before .judge .ensures) (c .before .before .before .before .before .rd .given .1))))) (c .before .before .put-text .ensures .0)
 
 same-length-2 : tie.Need-same-length-2
 same-length-2 c = search needs
 
 returns-2 : tie.Need-returns-2
 returns-2 c =
-    let z = refused-of _ _ _ (ap builtAs (sym (c .before .before .before .before .before .number .given .1)) ∙ c .before .before .before .before .before .before .before .before .build .ensures .0) in
-    puts-as _ _ _ _ _ (ap printed (sym (roomy-refused _ _ _ _ _ _ (omega arith) z))) (c .before .before .put-refusal .ensures)
+    let b = c .before .before .before .before .before .before .before .before .before .before .before .before .args .table .now in
+    puts-as (c .before .before .before .before .before .before .before .before .before .before .before .before .args .out .now) (refused-line b _ _ _ _ (refused-as b _ _ (c .before .before .before .before .before .before .before .before .before .judge .ensures) (c .before .before .before .before .before .before .before .fault .given .1)) (c .before .before .before .before .number-of .ensures) (c .before .before .before .place-of .ensures)) (c .before .before .put-refused .ensures)
 
 pub put-plan-spec : {M : Type 1} → statement M
 put-plan-spec =
     tie.close
     (tie.spec
-    slice-aggregate-build
-    build-requires
-    enum-known-n
-    array-share-prefix-table
-    slice-aggregate-put-table
-    put-table-requires
-    enum-known-number
-    put-refusal-requires
+    judge-requires
+    enum-known-rd
+    put-text-requires
+    enum-known-fault
+    number-of-requires
+    place-of-requires
+    put-refused-requires
     same-length
     returns
     same-length-2

@@ -1,9 +1,8 @@
 -- `plan_text`: the judge decides, then the room.
 -- Assumes nothing.
-use mathlib.Core.Path.{_≡_, refl, sym, ap, _∙_}
+use mathlib.Core.Path.{ap, _∙_}
 use mathlib.Core.List.{List}
-use Prim.Native.Nat.{ℕ, _≤_}
-use native.Mathlib.Omega.{arith}
+use Prim.Native.Nat.{ℕ}
 use lib.ListN.{length}
 use Rattle.paper.specs.Words.{Table}
 use Rattle.paper.specs.Outcome.{Outcome, lengthOf, leaves}

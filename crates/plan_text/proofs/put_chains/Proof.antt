@@ -1,9 +1,7 @@
 -- `put_chains`: at row `first` the lines of the chains that begin before it are written.
 -- Assumes nothing.
-use mathlib.Core.Path.{_≡_}
 use Prim.Native.Nat.{_-_}
 use borrow.Author.Needs.{needs}
-use native.Mathlib.Omega.{arith}
 use Rattle.laws.proofs.Writing.{length-lent}
 use Rattle.rotation.specs.Edges.{linkOf}
 use Rattle.plan_text.proofs.ChainLines.{Chained, chained-start, chained-more, chained-end}

@@ -1,8 +1,6 @@
 -- `put_head`: its three numbers have at most 7 digits each.
 -- Assumes nothing.
-use Prim.Native.Nat.{_≤_}
 use native.Mathlib.Omega.{arith}
-use lib.ListN.{length}
 use Rattle.plan_text.proofs.PlanText.{head-most}
 use borrow.Author.Needs.{needs}
 use Rattle.plan_text.proofs.put_head.Statement.{statement}

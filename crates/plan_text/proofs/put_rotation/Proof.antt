@@ -1,11 +1,9 @@
 -- `put_rotation`: the loads are written behind the chains.
 -- Assumes nothing.
-use mathlib.Core.Path.{_≡_, ap}
+use mathlib.Core.Path.{ap}
 use mathlib.Core.List.{_++_}
-use Prim.Native.Nat.{_≤_}
 use borrow.Author.Needs.{needs}
 use native.Mathlib.Omega.{arith}
-use lib.ListN.{length}
 use Rattle.form.specs.Formed.{tableOf}
 use Rattle.laws.proofs.Writing.{written, grown, renamed, all-written}
 use Rattle.plan_text.specs.Parts.{chainLines, rotationLines}

@@ -1,13 +1,12 @@
 -- `put_runs`: after k turns the lines of the first k runs are written.
 -- Assumes nothing.
-use mathlib.Core.Path.{_≡_, refl, sym, ap, _∙_}
-use Prim.Native.Nat.{ℕ, _-_, _<_}
+use mathlib.Core.Path.{ap}
+use Prim.Native.Nat.{_-_}
 use borrow.Author.Needs.{needs}
 use native.Mathlib.Omega.{arith}
-use lib.ListN.{length}
 use Rattle.laws.proofs.Writing.{length-lent}
 use Rattle.laws.proofs.Listing.{Listing, listing-start, listing-at, listing-room, listing-more, listing-end}
-use Rattle.paper.specs.Words.{run, runAt}
+use Rattle.paper.specs.Words.{run}
 use Rattle.paper.specs.Text.{runLine}
 use Rattle.form.specs.Formed.{tableOf}
 use Rattle.form.proofs.Table.{table-runs}

@@ -1,11 +1,5 @@
 -- `put_table`: each part is written behind those before it.
 -- Assumes nothing.
-use mathlib.Core.Path.{_≡_, ap}
-use mathlib.Core.List.{_++_}
-use Prim.Native.Nat.{_≤_}
-use native.Mathlib.Omega.{arith}
-use lib.ListN.{length}
-use Rattle.form.specs.Formed.{tableOf}
 use Rattle.laws.proofs.Writing.{written, grown, renamed, all-written}
 use Rattle.plan_text.proofs.PlanText.{head-is}
 use Rattle.plan_text.specs.Parts.{tableLines}

@@ -1,11 +1,5 @@
 -- `put_text`: what follows from the table is written behind what stands in it.
 -- Assumes nothing.
-use mathlib.Core.Path.{_≡_, ap}
-use mathlib.Core.List.{_++_}
-use Prim.Native.Nat.{_≤_}
-use native.Mathlib.Omega.{arith}
-use lib.ListN.{length}
-use Rattle.form.specs.Formed.{tableOf}
 use Rattle.laws.proofs.Writing.{written, grown, renamed, all-written}
 use Rattle.plan_text.proofs.PlanText.{text-is}
 use borrow.Author.Needs.{needs}

@@ -1,7 +1,6 @@
 -- `digit_count`: each division by 10 takes one digit away.
 -- Assumes nothing.
 use borrow.Author.Needs.{needs}
-use native.Mathlib.Omega.{arith}
 use Rattle.print_lines.proofs.Decimal.{Counting, counting-start, counting-more, counting-end}
 use Rattle.print_lines.proofs.digit_count.Statement.{statement}
 use Rattle.print_lines.proofs.digit_count.Tie as tie

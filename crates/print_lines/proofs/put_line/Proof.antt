@@ -1,6 +1,6 @@
 -- `put_line`: the word, the numbers behind it, the line feed behind both.
 -- Assumes nothing.
-use mathlib.Core.Path.{_≡_, refl, sym, ap, _∙_}
+use mathlib.Core.Path.{sym, ap}
 use Prim.Native.Nat.{_+_}
 use mathlib.Core.List.{[], _∷_}
 use native.Mathlib.Omega.{arith}

@@ -1,9 +1,8 @@
 -- `put_number`: each turn stores the last digit of what is left, in front of those that stand.
 -- Assumes nothing.
-use mathlib.Core.Path.{_≡_, refl, sym, ap, _∙_}
+use mathlib.Core.Path.{_≡_, refl}
 use Prim.Native.Nat.{_≤_}
 use borrow.Author.Needs.{needs}
-use native.Mathlib.Omega.{arith}
 use lib.ListN.{length, length-set}
 use Rattle.print_lines.proofs.Decimal.{Storing, storing-start, storing-more, storing-end}
 use Rattle.print_lines.proofs.put_number.Statement.{statement}
