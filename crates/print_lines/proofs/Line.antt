@@ -4,13 +4,14 @@ use Prim.Native.Nat.{ℕ, suc, _+_, _*_, _^_, _≤_, _<_}
 use mathlib.Core.Path.{_≡_, refl, sym, ap, _∙_}
 use mathlib.Core.List.{List, [], _∷_, _++_, append-assoc}
 use native.Mathlib.Omega.{arith}
-use lib.ListN.{length, length-append}
+use lib.ListN.{length, drop, length-append}
 use Rattle.laws.specs.Lists.{flat, over}
 use Rattle.laws.proofs.Each.{Each, each-map}
 use Rattle.laws.proofs.Writing.{Wrote}
 use Rattle.laws.proofs.Listing.{flat-most}
 use Rattle.paper.specs.Text.{printLine}
 use Rattle.print_lines.specs.Spaced.{spaced}
+use Rattle.print_lines.specs.Puts.{Puts}
 use Rattle.print_lines.proofs.Decimal.{count-most}
 
 -- where the word stands, the numbers and the line feed are left
@@ -26,3 +27,8 @@ line-length word numbers =
 -- a line of numbers below 10^d
 pub line-most : (d : ℕ) (word numbers : List ℕ) → Each (λ n. n < 10 ^ suc d) numbers → length (printLine word numbers) ≤ length word + (2 + d) * length numbers + 1
 line-most d word numbers h = omega (arith, line-length word numbers, flat-most spaced (2 + d) numbers (each-map (λ n. n < 10 ^ suc d) (λ n. length (spaced n) ≤ 2 + d) (λ n l. omega (arith, count-most d 20 n l)) numbers h))
+
+-- what was put is no longer than the buffer
+pub puts-fits : (w l xs : List ℕ) (n : ℕ) → Puts w l xs n → n ≤ length xs
+unfolding over
+puts-fits w l xs n p = omega (arith, p .0, ap length (p .1), length-append w (drop (length w) l))

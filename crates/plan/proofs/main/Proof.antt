@@ -3,7 +3,7 @@
 use borrow.Author.Needs.{needs}
 use mathlib.Core.Path.{sym}
 use lib.Seq.{length-take-le}
-use Rattle.plan_run.proofs.Printing.{puts-fits}
+use Rattle.print_lines.proofs.Line.{puts-fits}
 use Rattle.plan.proofs.main.Statement.{statement}
 use Rattle.plan.proofs.main.Tie as tie
 
@@ -19,14 +19,11 @@ array-share-prefix-input c = search needs
 slice-aggregate-run-plan : tie.Need-slice-aggregate-run-plan
 slice-aggregate-run-plan c = search needs
 
-slice-aggregate-run-plan-2 : tie.Need-slice-aggregate-run-plan-2
-slice-aggregate-run-plan-2 c = search needs
-
 run-plan-requires : tie.Need-run-plan-requires
 run-plan-requires c κs = search needs
 
 array-share-prefix-out : tie.Need-array-share-prefix-out
-array-share-prefix-out c = puts-fits _ _ _ _ (c .before .run-plan .ensures)
+array-share-prefix-out c = puts-fits _ _ _ _ (c .run-plan .ensures)
 
 slice-aggregate-write-all : tie.Need-slice-aggregate-write-all
 slice-aggregate-write-all c = sym (length-take-le _ _ (array-share-prefix-out (c .before)))
@@ -45,7 +42,6 @@ main-spec =
     read-full-requires
     array-share-prefix-input
     slice-aggregate-run-plan
-    slice-aggregate-run-plan-2
     run-plan-requires
     array-share-prefix-out
     slice-aggregate-write-all
