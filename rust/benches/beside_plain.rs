@@ -54,9 +54,9 @@ fn beside(name: &str, times: usize, mut ours: impl FnMut(), mut theirs: impl FnM
 
 /// A set of n duties with periods that are multiples of 240, on as many engines as they need.
 fn duties(n: usize) -> (u32, Vec<u32>, Vec<u32>) {
-    let services: Vec<u32> = (0..n as u32).map(|i| (100 + 7 * (i % 11)) * (1 + i % 4)).collect();
+    let services: Vec<u32> = (0..n as u32).map(|i| (60 + 7 * (i % 11)) * (1 + i % 4)).collect();
     let periods: Vec<u32> = (0..n as u32).map(|i| 240 * (1 + i % 4)).collect();
-    let total: u32 = (0..n as u32).map(|i| 100 + 7 * (i % 11)).sum();
+    let total: u32 = (0..n as u32).map(|i| 60 + 7 * (i % 11)).sum();
     (total.div_ceil(240).clamp(1, 32), services, periods)
 }
 
