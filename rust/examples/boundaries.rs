@@ -172,10 +172,12 @@ fn faults() {
             });
         }
     }
-    changed("faults 10 and 11", |h| {
-        h.duties.iter_mut().for_each(|x| x.1 *= 2);
-        h.runs[3].3 = 0;
-    });
+    for (other, fault) in &each {
+        changed(&format!("faults 10 and {other}"), |h| {
+            fault(h);
+            h.runs.last_mut().unwrap().3 = 0;
+        });
+    }
 }
 
 fn asked() {
