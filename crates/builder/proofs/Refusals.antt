@@ -6,15 +6,14 @@ use mathlib.Core.Bool.{true, false, not}
 use mathlib.Core.List.{List}
 use native.Mathlib.Nat.{le-of-dvd}
 use native.Mathlib.Omega.{arith}
-use lib.Dec.{leb}
 use lib.ListN.{length, getD}
-use borrow.Author.Tests.{lt-ltb, le-ltb, eq-eqb, ne-eqb, leb-true, not-false}
+use borrow.Author.Tests.{lt-ltb, le-ltb, eq-eqb, ne-eqb, not-false}
 use Rattle.laws.specs.Choice.{pick}
 use Rattle.laws.specs.Divisor.{gcdOf}
 use Rattle.laws.specs.Lists.{sumOf, over}
 use Rattle.laws.proofs.Divisor.{gcdOf-divides, gcdOf-positive}
-use Rattle.laws.proofs.Lists.{and-left, and-right}
-use Rattle.laws.proofs.Search.{by-cases, none-clear}
+use Rattle.laws.proofs.Cases.{by-cases}
+use Rattle.laws.proofs.Search.{none-clear}
 use Rattle.paper.specs.declared.Duty.{Duty}
 use Rattle.paper.specs.Words.{dutyAt, blockLengthOf}
 use Rattle.paper.specs.Sa1.{slices, sa1}
@@ -22,10 +21,12 @@ use Rattle.paper.specs.Outcome.{Outcome, refused, answer, lengthOf, leaves}
 use Rattle.paper.specs.Bytes.{small, mostTicks, within, dutyRanged, encode}
 use Rattle.paper.specs.Builder.{dutiesOf, badRange, rangeFault, badSlice, planAt, planDuties, plan, fitted, build}
 use Rattle.paper.specs.Statements.{DutyRanged}
+use Rattle.paper.proofs.Passed.{within-told, duty-ranged}
+use Rattle.duties.specs.Ready.{Paired, Ready}
+use Rattle.duties.proofs.Duties.{duties-length, duty-is, block-length-is}
 use Rattle.builder.specs.declared.Built.{Built}
 use Rattle.builder.specs.declared.Built.the-variants.{Length, Refused}
-use Rattle.builder.specs.Built.{builtAs, written, buildAt, Paired, Ready}
-use Rattle.builder.proofs.Duties.{duties-length, duty-is, block-length-is, ranged-is}
+use Rattle.builder.specs.Built.{builtAs, written, buildAt}
 
 -- an answer and the bytes left by it are those of an outcome
 abbrev pub Does : Built → List ℕ → List ℕ → Outcome (List ℕ) → Type 0
@@ -135,7 +136,7 @@ past-5 m ss ps room a b c h =
 all-ranged : (ss ps : List ℕ) → length ss ≤ badRange (dutiesOf ss ps) → (i : ℕ) → i < length ss → DutyRanged (dutyAt (dutiesOf ss ps) i)
 unfolding badRange
 all-ranged ss ps h i l =
-    ranged-is (dutyAt ds i)
+    duty-ranged (dutyAt ds i)
     (not-false (dutyRanged (dutyAt ds i)) (none-clear (λ d. not (dutyRanged (dutyAt ds d))) (length ds) (le-ltb _ (length ds) (omega (arith, duties-length ss ps))) i (omega (arith, duties-length ss ps))))
   where
     ds : List Duty
@@ -162,6 +163,4 @@ ready ss ps p a h =
 
 -- a number that passes the test of a range is in it
 pub inside : (low high v : ℕ) → not (within low high v) ≡ false → (low ≤ v) × (v ≤ high)
-inside low high v h =
-    let w = not-false (within low high v) h in
-    (leb-true low v (and-left (leb low v) (leb v high) w), leb-true v high (and-right (leb low v) (leb v high) w))
+inside low high v h = within-told low high v (not-false (within low high v) h)

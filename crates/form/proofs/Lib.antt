@@ -1,3 +1,1 @@
-pub mod Stands
 pub mod Formed
-pub mod Table

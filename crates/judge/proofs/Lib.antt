@@ -1,2 +1,4 @@
 pub mod Accepted
+pub mod Asked
+mod OneForm
 pub mod Unique

@@ -1,1 +1,3 @@
 pub mod AcceptedAs
+pub mod Ready
+pub mod Ruled

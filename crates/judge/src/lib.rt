@@ -1,21 +1,71 @@
-// The judge of tables: the form of the bytes, then the rules.
+// The judge of tables: the form of the bytes, then the rules. One pass over the runs serves the judge and those who ask on.
 ghost use mathlib.Core.Path.{_≡_};
-ghost use Rattle.paper.specs.Outcome.{judgedAs, faultNumber, faultPlace};
+ghost use Rattle.paper.specs.Outcome.{refused, judgedAs, faultNumber, faultPlace};
 ghost use Rattle.paper.specs.Rules.{judged};
+ghost use Rattle.formed.specs.Formed.{Formed};
+ghost use Rattle.judge.specs.Ruled.{Ruled};
 use form::Form;
 use form::form_of;
 use paper::Fault;
 use paper::Judged;
+use paper::Reading;
 use rules::judge_rules;
+use tally::tally_of;
+
+// What judging leaves to those who ask on: the judge's answer, and what holds the first and the last unit of each row of a
+// table in good form.
+pub struct Ruling {
+    pub judged: Judged,
+    pub starts: [u32; 33],
+    pub ends: [u32; 33],
+}
+
+// The rules' answer to bytes in good form, with the edges of the rows that the tally has found.
+fn rule_on_form(b: &[u8], rd: Reading) -> Ruling
+    requires { ⌜ Formed (now b) rd ⌝ }
+    ensures { λ r. ⌜ Ruled (now (b .entry)) r ⌝ }
+{
+    let tally = tally_of(b, rd);
+    let units = tally.units;
+    let starts = tally.starts;
+    let ends = tally.ends;
+    let judged = judge_rules(b, rd, &units);
+    Ruling {
+        judged,
+        starts,
+        ends,
+    }
+}
+
+// Bytes that are in no good form have no rows.
+fn rule_on_fault(at: usize) -> Ruling
+    ensures { λ r. ⌜ judgedAs (r .judged) ≡ refused 10 at ⌝ }
+{
+    let judged = Judged::Bad(Fault::Form(at));
+    let starts = [0u32; 33];
+    let ends = [0u32; 33];
+    Ruling {
+        judged,
+        starts,
+        ends,
+    }
+}
+
+// Judges any bytes: the reading of an accepted table, or the lowest fault with its place; and the edges of its rows.
+pub fn rule_on(b: &[u8]) -> Ruling
+    ensures { λ r. ⌜ Ruled (now (b .entry)) r ⌝ }
+{
+    match form_of(b) {
+        Form::Good(rd) => rule_on_form(b, rd),
+        Form::Fault(at) => rule_on_fault(at),
+    }
+}
 
 // Judges any bytes: the reading of an accepted table, or the lowest fault with its place.
 pub fn judge(b: &[u8]) -> Judged
     ensures { λ r. ⌜ judgedAs r ≡ judged (now (b .entry)) ⌝ }
 {
-    match form_of(b) {
-        Form::Good(rd) => judge_rules(b, rd),
-        Form::Fault(at) => Judged::Bad(Fault::Form(at)),
-    }
+    rule_on(b).judged
 }
 
 // A fault's number.

@@ -3,6 +3,7 @@
 use Prim.Native.Nat.{ℕ, _≤_, _<_}
 use mathlib.Core.Path.{_≡_, refl, sym, _∙_}
 use mathlib.Core.Bool.{Bool, true, false, _&&_}
+use native.Mathlib.Nat.{le-antisymm}
 use native.Mathlib.Omega.{arith}
 use lib.Dec.{ltb, eqb}
 use borrow.Author.Tests.{ltb-true, ltb-false, eqb-true, eqb-false, eq-eqb, ne-eqb}
@@ -16,25 +17,32 @@ by-cases false f g = g refl
 pub lt-or-le : {P : Type 0} (a b : ℕ) → (a < b → P) → (b ≤ a → P) → P
 lt-or-le a b f g = by-cases (ltb a b) (λ p. f (ltb-true a b p)) (λ p. g (ltb-false a b p))
 
+-- one number is below the other, above it or the same
+pub by-order : {P : Type 0} (a b : ℕ) → (a < b → P) → (b < a → P) → (a ≡ b → P) → P
+by-order a b f g h = lt-or-le a b f (λ l. lt-or-le b a g (λ m. h (le-antisymm m l)))
+
 -- a Bool is not both
 pub not-both : {P : Type 0} {b : Bool} → b ≡ true → b ≡ false → P
 not-both p q = let z : _≡_ {A = ℕ} 0 1 = cc in absurd (omega arith)
 
--- both tests hold where both together do
-pub both-true : (a b : Bool) → a && b ≡ true → (a ≡ true) × (b ≡ true)
-both-true true b p = (refl, p)
-both-true false b p = not-both p refl
+-- a test that cannot hold fails
+pub refuted : (b : Bool) → (b ≡ true → ⊥) → b ≡ false
+refuted true n = absurd (n refl)
+refuted false n = refl
+
+-- the two halves of a Bool `&&`, and the whole of its halves
+pub and-left : (a b : Bool) → a && b ≡ true → a ≡ true
+and-left true b h = refl
+and-left false b h = h
+
+pub and-right : (a b : Bool) → a && b ≡ true → b ≡ true
+and-right true b h = h
+and-right false b h = not-both h refl
+
+pub and-both : (a b : Bool) → a ≡ true → b ≡ true → a && b ≡ true
+and-both a b p q = rw (p, q)
 
 -- the test of an equation is that of the equation turned round
 pub eqb-sym : (i j : ℕ) → eqb i j ≡ eqb j i
 eqb-sym i j =
     by-cases (eqb i j) (λ p. p ∙ sym (eq-eqb j i (sym (eqb-true i j p)))) (λ p. p ∙ sym (ne-eqb j i (λ q. eqb-false i j p (sym q))))
-
--- a test together with one that holds, or with one that fails
-pub and-yes : (b : Bool) → b && true ≡ b
-and-yes true = refl
-and-yes false = refl
-
-pub and-no : (b : Bool) → b && false ≡ false
-and-no true = refl
-and-no false = refl

@@ -2,13 +2,13 @@
 -- the test then finds the lowest without the condition, or none where all have it.
 -- Assumes nothing.
 use Prim.Native.Nat.{ℕ, _<_}
-use mathlib.Core.Path.{_≡_, refl, ap}
+use mathlib.Core.Path.{_≡_, ap}
 use mathlib.Core.Bool.{Bool, true, false, not}
 use mathlib.Core.Logic.{_↔_}
 use lib.Dec.{ltb, eqb}
 use borrow.Author.Tests.{ltb-true, eqb-true, eq-eqb, not-true, not-false}
 use Rattle.laws.specs.Search.{first}
-use Rattle.laws.proofs.Cases.{not-both}
+use Rattle.laws.proofs.Cases.{not-both, refuted}
 use Rattle.laws.proofs.Search.{first-is, first-clear, first-holds, none-clear, clear-none}
 
 -- the test holds exactly where P does
@@ -25,8 +25,7 @@ fails b d e x = not-both (d .1 x) e
 
 -- .. and there it fails
 pub failed : {P : Type 0} (b : Bool) → Decides b P → Not P → b ≡ false
-failed true d n = absurd (n (d .0 refl))
-failed false d n = refl
+failed b d n = refuted b (λ h. n (d .0 h))
 
 -- the test of an equation
 pub eqb-decides : (a b : ℕ) → Decides (eqb a b) (a ≡ b)
@@ -36,7 +35,7 @@ eqb-decides a b = (eqb-true a b, eq-eqb a b)
 abbrev pub Lowest : (ℕ → Type 0) → ℕ → ℕ → Type 0
 Lowest P n p = (p < n) × ((i : ℕ) → i < p → P i) × Not (P p)
 
-module _ (test : ℕ → Bool) (P : ℕ → Type 0) (d : (i : ℕ) → Decides (test i) (P i)) (n : ℕ) where
+module _ {test : ℕ → Bool} {P : ℕ → Type 0} (d : (i : ℕ) → Decides (test i) (P i)) (n : ℕ) where
   -- what the search finds is the lowest without P
   pub lowest-found : ltb (first (λ i. not (test i)) n) n ≡ true → Lowest P n (first (λ i. not (test i)) n)
   lowest-found h =
@@ -51,9 +50,9 @@ module _ (test : ℕ → Bool) (P : ℕ → Type 0) (d : (i : ℕ) → Decides (
   pub found-lowest : (p : ℕ) → Lowest P n p → first (λ i. not (test i)) n ≡ p
   found-lowest p l = first-is (λ i. not (test i)) n p (l .0) (λ i k. ap not (d i .1 (l .1 i k))) (ap not (failed (test p) (d p) (l .2)))
 
-  -- where it finds none all have P, and the converse
-  pub none-found : ltb (first (λ i. not (test i)) n) n ≡ false → (i : ℕ) → i < n → P i
-  none-found h i l = d i .0 (not-false (test i) (none-clear (λ j. not (test j)) n h i l))
-
-  pub found-none : ((i : ℕ) → i < n → P i) → ltb (first (λ i. not (test i)) n) n ≡ false
-  found-none h = clear-none (λ i. not (test i)) n (λ i l. ap not (d i .1 (h i l)))
+  -- it finds none exactly where all have P
+  pub none-found : (ltb (first (λ i. not (test i)) n) n ≡ false) ↔ ((i : ℕ) → i < n → P i)
+  none-found = (
+    (λ h i l. d i .0 (not-false (test i) (none-clear (λ j. not (test j)) n h i l))),
+    (λ h. clear-none (λ i. not (test i)) n (λ i l. ap not (d i .1 (h i l)))),
+  )

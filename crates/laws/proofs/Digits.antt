@@ -13,6 +13,10 @@ use Rattle.laws.specs.Lists.{flat}
 use Rattle.laws.specs.Digits.{digits, numAt}
 use Rattle.laws.proofs.Cases.{lt-or-le}
 
+-- without its last digit, to any base, a number has one digit less
+pub quotient-below : (b k n : ℕ) → 0 < b → n < b ^ suc k → n / b < b ^ k
+quotient-below b k n p h = div-lt-iff-lt-mul {k = b} p .1 (rw pow-suc at h)
+
 -- every entry is a byte
 abbrev pub AreBytes : List ℕ → Type 0
 AreBytes b = (k : ℕ) → k < length b → getD b k 0 < 256
@@ -34,31 +38,18 @@ digits-bytes zero v j h = absurd (not-suc-le-zero h)
 digits-bytes (suc k) v zero h = mod-lt v {m = 256} (omega arith)
 digits-bytes (suc k) v (suc j) h = digits-bytes k (v / 256) j (le-of-suc-le-suc h)
 
--- a field is read the same where something stands before ..
+-- a field is read the same where something stands before it
 pub numAt-after : (k : ℕ) (pre b : List ℕ) (at : ℕ) → numAt k (pre ++ b) (length pre + at) ≡ numAt k b at
 unfolding numAt
 numAt-after zero pre b at = refl
 numAt-after (suc k) pre b at = rw (getD-append-add, add-assoc, numAt-after k pre b (at + 1))
-
--- .. and where something stands after it
-pub numAt-before : (k : ℕ) (b post : List ℕ) (at : ℕ) → at + k ≤ length b → numAt k (b ++ post) at ≡ numAt k b at
-unfolding numAt
-numAt-before zero b post at h = refl
-numAt-before (suc k) b post at h = rw (List·getD-append b post 0 at (omega arith), numAt-before k b post (at + 1) (omega arith))
 
 -- written and read again
 pub numAt-digits : (k v : ℕ) (rest : List ℕ) → v < 256 ^ k → numAt k (digits k v ++ rest) 0 ≡ v
 unfolding digits numAt
 numAt-digits zero v rest h = omega arith
 numAt-digits (suc k) v rest h =
-    let below : v / 256 < 256 ^ k = div-lt-iff-lt-mul {k = 256} (omega arith) .1 (rw pow-suc at h) in
-    omega (arith, numAt-after k (v % 256 ∷ []) (digits k (v / 256) ++ rest) 0, numAt-digits k (v / 256) rest below)
-
--- the number in a field of k bytes is below 256^k
-pub numAt-below : (k : ℕ) (b : List ℕ) (at : ℕ) → AreBytes b → numAt k b at < 256 ^ k
-unfolding numAt
-numAt-below zero b at h = omega arith
-numAt-below (suc k) b at h = rw pow-suc (omega (arith, byte-below b h at, numAt-below k b (at + 1) h))
+    omega (arith, numAt-after k (v % 256 ∷ []) (digits k (v / 256) ++ rest) 0, numAt-digits k (v / 256) rest (quotient-below 256 k v (omega arith) h))
 
 -- read and written again
 pub digits-numAt : (k : ℕ) (b : List ℕ) (at : ℕ) → AreBytes b → at + k ≤ length b → digits k (numAt k b at) ≡ take k (drop at b)
@@ -79,10 +70,14 @@ bytes-append p q y z k h =
     let e : k ≡ length p + (k - length p) = omega arith in
     rw (e, getD-append-add p q (k - length p) 0) (byte-below q z (k - length p)))
 
--- a byte before a list of bytes
-pub bytes-cons : (x : ℕ) (p : List ℕ) → x < 256 → AreBytes p → AreBytes (x ∷ p)
-bytes-cons x p h y zero l = h
-bytes-cons x p h y (suc k) l = y k (le-of-suc-le-suc l)
+-- one byte
+pub bytes-one : (x : ℕ) → x < 256 → AreBytes (x ∷ [])
+bytes-one x h zero l = h
+bytes-one x h (suc k) l = absurd (not-suc-le-zero (le-of-suc-le-suc l))
+
+-- a number's bytes after a list of bytes
+pub bytes-field : (p : List ℕ) (k v : ℕ) → AreBytes p → AreBytes (p ++ digits k v)
+bytes-field p k v y = bytes-append p (digits k v) y (digits-bytes k v)
 
 -- records of bytes one after the other
 pub bytes-flat : {A : Type 0} (f : A → List ℕ) → ((x : A) → AreBytes (f x)) → (xs : List A) → AreBytes (flat f xs)

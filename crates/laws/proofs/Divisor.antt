@@ -4,7 +4,7 @@
 use Prim.Native.Nat.{ℕ, zero, suc, _+_, _-_, _%_, _≤_, _<_, _∣_}
 use mathlib.Core.Path.{_≡_, refl, sym, ap, _∙_}
 use mathlib.Core.List.{List, [], _∷_}
-use native.Mathlib.Nat.{mod-lt, mod-zero, dvd-refl, dvd-zero, dvd-trans, dvd-mod-iff, dvd-antisymm, zero-lt-suc, not-suc-le-zero, le-of-suc-le-suc, pos-of-dvd-of-pos}
+use native.Mathlib.Nat.{mod-lt, dvd-refl, dvd-zero, dvd-trans, dvd-mod-iff, dvd-antisymm, zero-lt-suc, not-suc-le-zero, le-of-suc-le-suc, pos-of-dvd-of-pos}
 use native.Mathlib.Omega.{arith}
 use native.Mathlib.Numerals.{add-one}
 use lib.ListN.{length, getD, drop, drop-of-length-le}

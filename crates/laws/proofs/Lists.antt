@@ -2,29 +2,17 @@
 -- Assumes nothing.
 use Prim.Native.Nat.{ℕ, zero, suc, _+_, _*_, _≤_, _<_}
 use mathlib.Core.Path.{_≡_, refl, sym, ap, _∙_}
-use mathlib.Core.Bool.{Bool, true, false, _&&_}
-use mathlib.Core.List.{List, [], _∷_, _++_, map, append-assoc, append-nil}
+use mathlib.Core.Bool.{true, false}
+use mathlib.Core.List.{List, [], _∷_, _++_, map, append-assoc}
 use native.Mathlib.Nat.{le-of-suc-le-suc, not-suc-le-zero}
 use native.Mathlib.Numerals.{add-one}
 use native.Mathlib.Omega.{arith}
 use lib.Dec.{eqb}
-use lib.ListN.{length, getD, take, drop, set, length-append, length-drop, drop-of-length-le}
-use lib.Seq.{drop-cons, ext-getD, getD-set-same, getD-set-other}
-use borrow.Author.Tests.{eqb-true, eq-eqb}
+use lib.ListN.{length, getD, take, drop, set, replicate, length-append, length-set, drop-of-length-le, length-replicate, getD-replicate}
+use lib.Seq.{length-take-le, drop-cons, ext-getD, getD-take, getD-set-same, getD-set-other}
+use borrow.Author.Tests.{eqb-true, eqb-false, eq-eqb}
 use Rattle.laws.specs.Lists.{tab, flat, sumOf, same-list}
-use Rattle.laws.proofs.Search.{by-cases}
-
--- the two halves of a Bool `&&`
-pub and-left : (a b : Bool) → a && b ≡ true → a ≡ true
-and-left true b h = refl
-and-left false b h = h
-
-pub and-right : (a b : Bool) → a && b ≡ true → b ≡ true
-and-right true b h = h
-and-right false b h = let z : _≡_ {A = Bool} true false = sym h in cc
-
-pub and-both : (a b : Bool) → a ≡ true → b ≡ true → a && b ≡ true
-and-both a b p q = rw (p, q)
+use Rattle.laws.proofs.Cases.{by-cases, lt-or-le, not-both, refuted, and-left, and-right, and-both}
 
 -- ---- tab
 
@@ -57,11 +45,10 @@ unfolding tab
 tab-getD [] d = refl
 tab-getD {A} (x ∷ xs) d = ap (λ (l : List A). x ∷ l) (tab-getD xs d)
 
--- what is left of a table after k entries begins with f k
-pub drop-tab : {A : Type 0} (n : ℕ) (f : ℕ → A) (d : A) (k : ℕ) → k < n → drop k (tab n f) ≡ f k ∷ drop (k + 1) (tab n f)
-drop-tab {A} n f d k h =
-    rw add-one
-    (drop-cons (tab n f) k d (rw length-tab h) ∙ ap (λ (x : A). x ∷ drop (suc k) (tab n f)) (getD-tab n f d k h))
+-- and any list with a table's length and entries is the table
+pub tab-is : (n : ℕ) (f : ℕ → ℕ) (l : List ℕ) → length l ≡ n → ((k : ℕ) → k < n → getD l k 0 ≡ f k) → l ≡ tab n f
+tab-is n f l e h =
+    ext-getD 0 l (tab n f) (e ∙ sym (length-tab n f)) (λ k m. let m′ : k < n = omega arith in h k m′ ∙ sym (getD-tab n f 0 k m′))
 
 -- ---- map, flat and sums, by what is left of the list
 
@@ -106,8 +93,8 @@ sumOf-done l k h = rw (drop-of-length-le l h)
 pub same-list-eq : (xs ys : List ℕ) → same-list xs ys ≡ true → xs ≡ ys
 unfolding same-list
 same-list-eq [] [] h = refl
-same-list-eq [] (y ∷ ys) h = let z : _≡_ {A = Bool} true false = sym h in cc
-same-list-eq (x ∷ xs) [] h = let z : _≡_ {A = Bool} true false = sym h in cc
+same-list-eq [] (y ∷ ys) h = not-both h refl
+same-list-eq (x ∷ xs) [] h = not-both h refl
 same-list-eq (x ∷ xs) (y ∷ ys) h =
     let e = eqb-true x y (and-left (eqb x y) (same-list xs ys) h) in
     let r = same-list-eq xs ys (and-right (eqb x y) (same-list xs ys) h) in
@@ -121,10 +108,18 @@ same-list-refl (x ∷ xs) = and-both (eqb x x) (same-list xs xs) (eq-eqb x x ref
 pub same-list-of-eq : (xs ys : List ℕ) → xs ≡ ys → same-list xs ys ≡ true
 same-list-of-eq xs ys e = rw e (same-list-refl ys)
 
--- lists that differ at an index are not the same
+-- lists that are not the same fail the test, as those do that differ at an index
+pub same-list-not : (xs ys : List ℕ) → (xs ≡ ys → ⊥) → same-list xs ys ≡ false
+same-list-not xs ys n = refuted (same-list xs ys) (λ p. n (same-list-eq xs ys p))
+
 pub same-list-differ : (xs ys : List ℕ) (k : ℕ) → (getD xs k 0 ≡ getD ys k 0 → ⊥) → same-list xs ys ≡ false
-same-list-differ xs ys k h =
-    by-cases (same-list xs ys) (λ p. absurd (h (ap (λ (l : List ℕ). getD l k 0) (same-list-eq xs ys p)))) (λ p. p)
+same-list-differ xs ys k h = same-list-not xs ys (λ e. h (ap (λ (l : List ℕ). getD l k 0) e))
+
+-- what stands at k after a store at i: what was stored, or what stood there
+getD-set : (l : List ℕ) (i v k x : ℕ) → i < length l → (k ≡ i → v ≡ x) → ((k ≡ i → ⊥) → getD l k 0 ≡ x) → getD (set l i v) k 0 ≡ x
+getD-set l i v k x h same other =
+    by-cases (eqb k i) (λ q. let e = eqb-true k i q in rw e (getD-set-same l i v 0 h ∙ same e))
+    (λ q. let n = eqb-false k i q in getD-set-other l i k v 0 n ∙ other n)
 
 -- ---- an array that is filled from its front: f below i, 0 from there on
 
@@ -133,50 +128,38 @@ pub record Filled (f : ℕ → ℕ) (n i : ℕ) (l : List ℕ) : Type 0 where
   pub done : (k : ℕ) → k < i → getD l k 0 ≡ f k
   pub rest : (k : ℕ) → i ≤ k → k < n → getD l k 0 ≡ 0
 
+-- an array of zeros is filled up to 0
+pub filled-none : (f : ℕ → ℕ) (n : ℕ) → Filled f n 0 (replicate n 0)
+filled-none f n = record { long = length-replicate {A = ℕ} n 0; done = λ k h. absurd (omega arith); rest = λ k h l. getD-replicate n k 0 0 l }
+
 pub filled-more : (f : ℕ → ℕ) (n i v : ℕ) (l : List ℕ) → Filled f n i l → i < n → v ≡ f i → Filled f n (i + 1) (set l i v)
 filled-more f n i v l F h e =
     record {
-      long = simp lib.ListN.length-set (F .long);
-      done = λ k p. by-cases (eqb k i) (λ q. same k (eqb-true k i q)) (λ q. other k p (borrow.Author.Tests.eqb-false k i q));
+      long = simp length-set (F .long);
+      done = λ k p. getD-set l i v k (f k) (omega (arith, F .long)) (λ q. rw q e) (λ q. F .done k (omega arith));
       rest = λ k p q. getD-set-other l i k v 0 (omega arith) ∙ F .rest k (omega arith) q;
     }
-  where
-    same : (k : ℕ) → k ≡ i → getD (set l i v) k 0 ≡ f k
-    same k q = rw q (getD-set-same l i v 0 (omega (arith, F .long)) ∙ e)
-
-    other : (k : ℕ) → k < i + 1 → (k ≡ i → ⊥) → getD (set l i v) k 0 ≡ f k
-    other k p q = getD-set-other l i k v 0 q ∙ F .done k (omega arith)
 
 -- filled to the end, it is the table
 pub filled-all : (f : ℕ → ℕ) (n : ℕ) (l : List ℕ) → Filled f n n l → l ≡ tab n f
-filled-all f n l F =
-    ext-getD 0 l (tab n f) (F .long ∙ sym (length-tab n f))
-    (λ k h. let h′ : k < n = omega (arith, F .long) in F .done k h′ ∙ sym (getD-tab n f 0 k h′))
+filled-all f n l F = tab-is n f l (F .long) (F .done)
 
 -- filled up to m, it is the table that goes on with 0
 pub filled-part : (f g : ℕ → ℕ) (n m : ℕ) (l : List ℕ) → Filled f n m l → ((k : ℕ) → k < m → f k ≡ g k) → ((k : ℕ) → m ≤ k → g k ≡ 0) → l ≡ tab n g
 filled-part f g n m l F e z =
-    ext-getD 0 l (tab n g) (F .long ∙ sym (length-tab n g))
-    (λ k h. let h′ : k < n = omega (arith, F .long) in at k h′ ∙ sym (getD-tab n g 0 k h′))
-  where
-    at : (k : ℕ) → k < n → getD l k 0 ≡ g k
-    at k h =
-        by-cases (lib.Dec.ltb k m) (λ p. let p′ = borrow.Author.Tests.ltb-true k m p in F .done k p′ ∙ e k p′)
-        (λ p. let p′ = borrow.Author.Tests.ltb-false k m p in F .rest k p′ h ∙ sym (z k p′))
+    tab-is n g l (F .long) (λ k h. lt-or-le k m (λ p. F .done k p ∙ e k p) (λ p. F .rest k p h ∙ sym (z k p)))
 
--- ---- a store into a table
+-- ---- an array that is a table at every step
+
+-- an array of zeros is the table of a function that is 0
+pub tab-zeros : (n : ℕ) (f : ℕ → ℕ) → ((k : ℕ) → f k ≡ 0) → replicate n 0 ≡ tab n f
+tab-zeros n f z = filled-part f f n 0 (replicate n 0) (filled-none f n) (λ k h. refl) (λ k h. z k)
 
 -- a table with one entry stored is the table of a function that differs there alone
 pub set-tab : (n i v : ℕ) (f g : ℕ → ℕ) → i < n → v ≡ g i → ((k : ℕ) → (k ≡ i → ⊥) → f k ≡ g k) → set (tab n f) i v ≡ tab n g
 set-tab n i v f g h e o =
-    ext-getD 0 (set (tab n f) i v) (tab n g) (lib.ListN.length-set (tab n f) i v ∙ length-tab n f ∙ sym (length-tab n g))
-    (λ k l. let m : k < n = rw (lib.ListN.length-set, length-tab) at l in at k m ∙ sym (getD-tab n g 0 k m))
-  where
-    at : (k : ℕ) → k < n → getD (set (tab n f) i v) k 0 ≡ g k
-    at k m =
-        by-cases (eqb k i)
-        (λ q. let p = eqb-true k i q in rw p (getD-set-same (tab n f) i v 0 (rw length-tab h) ∙ e))
-        (λ q. let p = borrow.Author.Tests.eqb-false k i q in getD-set-other (tab n f) i k v 0 p ∙ getD-tab n f 0 k m ∙ o k p)
+    tab-is n g (set (tab n f) i v) (length-set (tab n f) i v ∙ length-tab n f)
+    (λ k m. getD-set (tab n f) i v k (g k) (rw length-tab h) (λ q. rw q e) (λ q. getD-tab n f 0 k m ∙ o k q))
 
 -- ---- what is left of `flat` at an index, and at the end
 
@@ -188,7 +171,4 @@ flat-none f l k h = rw (drop-of-length-le l h) (flat-end f)
 
 -- the first n entries are the table of them
 pub tab-take : (n : ℕ) (l : List ℕ) → n ≤ length l → tab n (λ k. getD l k 0) ≡ take n l
-unfolding tab
-tab-take zero l h = refl
-tab-take (suc n) [] h = absurd (not-suc-le-zero h)
-tab-take (suc n) (x ∷ xs) h = ap (λ (t : List ℕ). x ∷ t) (tab-take n xs (le-of-suc-le-suc h))
+tab-take n l h = sym (tab-is n (λ k. getD l k 0) (take n l) (length-take-le n l h) (λ k m. getD-take n l k 0 m))

@@ -55,6 +55,10 @@ holds-num {b} {at} k v h l =
     rw (h .is, ← h .long, ← add-zero (length (h .before)))
     (numAt-after k (h .before) (digits k v ++ h .after) 0 ∙ numAt-digits k v (h .after) l)
 
+-- and so do those that stand after p
+pub holds-field : {b : List ℕ} {at : ℕ} (p : List ℕ) (k v place : ℕ) → Holds b at (p ++ digits k v) → at + length p ≡ place → v < 256 ^ k → numAt k b place ≡ v
+holds-field {b} {at} p k v place h e l = holds-num k v (holds-at (at + length p) place e (holds-right p (digits k v) h)) l
+
 -- of records of s entries each, the k-th stands k records on
 pub holds-flat :
     {A : Type 0} {b : List ℕ} (f : A → List ℕ) (s : ℕ) → ((x : A) → length (f x) ≡ s) → (d : A) (xs : List A) (at k : ℕ) → k < length xs

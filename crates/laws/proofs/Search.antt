@@ -5,14 +5,12 @@ use Prim.Native.Nat.{ℕ, zero, suc, _+_, _≤_, _<_}
 use mathlib.Core.Path.{_≡_, refl, sym, ap, _∙_}
 use mathlib.Core.Bool.{Bool, true, false}
 use native.Mathlib.Nat.{le-of-suc-le-suc, not-suc-le-zero, le-antisymm}
-use native.Mathlib.Numerals.{add-one}
 use native.Mathlib.Omega.{arith}
 use lib.Dec.{ltb}
-use borrow.Author.Tests.{ltb-true, ltb-false, lt-ltb, le-ltb}
+use borrow.Author.Tests.{ltb-false, le-ltb}
 use borrow.Author.Count.{below-more}
-use mathlib.Core.Logic.{⊎-elim}
 use Rattle.laws.specs.Search.{first, any}
-pub use Rattle.laws.proofs.Cases.{by-cases}
+use Rattle.laws.proofs.Cases.{by-cases, not-both}
 
 -- no index below n passes
 abbrev pub Clear : (ℕ → Bool) → ℕ → Type 0
@@ -68,16 +66,6 @@ first-holds test (suc n) h =
     by-cases (test 0) (λ p. rw (first-yes test n p) p)
     (λ p. rw (first-no test n p) (first-holds (λ k. test (suc k)) n (le-of-suc-le-suc (rw (first-no test n p) at h))))
 
--- the search of one test is that of another that says the same
-pub first-ext : (f g : ℕ → Bool) (n : ℕ) → ((k : ℕ) → k < n → f k ≡ g k) → first f n ≡ first g n
-unfolding first
-first-ext f g zero e = refl
-first-ext f g (suc n) e =
-    by-cases (g 0) (λ p. first-yes f n (e 0 (omega arith) ∙ p) ∙ sym (first-yes g n p))
-    (λ p. first-no f n (e 0 (omega arith) ∙ p)
-    ∙ ap suc (first-ext (λ k. f (suc k)) (λ k. g (suc k)) n (λ k l. e (suc k) (omega arith)))
-    ∙ sym (first-no g n p))
-
 -- a search that does not stop before the end has passed only failures, and the converse
 pub none-clear : (test : ℕ → Bool) (n : ℕ) → ltb (first test n) n ≡ false → Clear test n
 none-clear test n h k l = first-clear test n k (omega (arith, ltb-false (first test n) n h))
@@ -87,7 +75,7 @@ clear-none test n c = le-ltb (first test n) n (omega (arith, first-none test n c
 
 -- the same for `any`: one that passes is enough
 pub any-some : (test : ℕ → Bool) (n k : ℕ) → k < n → test k ≡ true → any test n ≡ true
-any-some test n k h p = by-cases (any test n) (λ y. y) (λ y. let z : _≡_ {A = Bool} true false = sym p ∙ none-clear test n y k h in cc)
+any-some test n k h p = by-cases (any test n) (λ y. y) (λ y. not-both p (none-clear test n y k h))
 
 -- ---- a loop that searches
 

@@ -4,7 +4,7 @@
 use Prim.Native.Nat.{ℕ, zero, suc, _+_, _*_, _-_, _≤_, _<_}
 use mathlib.Core.Path.{_≡_, refl, sym, ap, _∙_}
 use mathlib.Core.Bool.{_&&_}
-use native.Mathlib.Nat.{not-suc-le-zero, add-suc, add-zero, suc-mul, zero-mul, mul-zero, mul-add}
+use native.Mathlib.Nat.{not-suc-le-zero, add-suc, add-zero, suc-mul, zero-mul, mul-zero}
 use native.Mathlib.Numerals.{add-one}
 use native.Mathlib.Omega.{arith}
 use lib.Dec.{leb, ltb, eqb}
@@ -36,12 +36,6 @@ unfolding sumTo
 sum-ext zero f g e = refl
 sum-ext (suc n) f g e = omega (arith, sum-ext n f g (λ k h. e k (omega arith)), e n (omega arith))
 
--- smaller summands have a smaller sum
-pub sum-le : (n : ℕ) (f g : ℕ → ℕ) → ((k : ℕ) → k < n → f k ≤ g k) → sumTo n f ≤ sumTo n g
-unfolding sumTo
-sum-le zero f g e = omega arith
-sum-le (suc n) f g e = omega (arith, sum-le n f g (λ k h. e k (omega arith)), e n (omega arith))
-
 -- the sum of sums
 pub sum-plus : (n : ℕ) (f g : ℕ → ℕ) → sumTo n (λ k. f k + g k) ≡ sumTo n f + sumTo n g
 unfolding sumTo
@@ -56,37 +50,7 @@ sum-const (suc n) c = omega (arith, sum-const n c, suc-mul n c)
 
 -- nothing n times
 pub sum-zero : (n : ℕ) (f : ℕ → ℕ) → ((k : ℕ) → k < n → f k ≡ 0) → sumTo n f ≡ 0
-unfolding sumTo
-sum-zero zero f e = refl
-sum-zero (suc n) f e = omega (arith, sum-zero n f (λ k h. e k (omega arith)), e n (omega arith))
-
--- a factor of all summands is one of the sum
-pub sum-times : (n c : ℕ) (f : ℕ → ℕ) → sumTo n (λ k. c * f k) ≡ c * sumTo n f
-unfolding sumTo
-sum-times zero c f = omega (arith, mul-zero c)
-sum-times (suc n) c f = omega (arith, sum-times n c f, mul-add c (sumTo n f) (f n))
-
--- n summands of at most c are at most n * c
-pub sum-most : (n c : ℕ) (f : ℕ → ℕ) → ((k : ℕ) → k < n → f k ≤ c) → sumTo n f ≤ n * c
-sum-most n c f e = omega (arith, sum-le n f (λ k. c) e, sum-const n c)
-
--- n summands of at least c are at least n * c
-pub sum-least : (n c : ℕ) (f : ℕ → ℕ) → ((k : ℕ) → k < n → c ≤ f k) → n * c ≤ sumTo n f
-sum-least n c f e = omega (arith, sum-le n (λ k. c) f e, sum-const n c)
-
--- a sum of 0 has only zeros
-pub sum-zeros : (n : ℕ) (f : ℕ → ℕ) → sumTo n f ≡ 0 → (k : ℕ) → k < n → f k ≡ 0
-sum-zeros zero f e k h = absurd (not-suc-le-zero h)
-sum-zeros (suc n) f e k h =
-    lt-or-le k n (λ l. sum-zeros n f (omega (arith, sum-suc n f)) k l)
-    (λ l. let p : k ≡ n = omega arith in rw p (omega (arith, sum-suc n f)))
-
--- one summand is at most the sum
-pub sum-has : (n : ℕ) (f : ℕ → ℕ) (k : ℕ) → k < n → f k ≤ sumTo n f
-sum-has zero f k h = absurd (not-suc-le-zero h)
-sum-has (suc n) f k h =
-    lt-or-le k n (λ l. omega (arith, sum-suc n f, sum-has n f k l))
-    (λ l. let p : k ≡ n = omega arith in rw p (omega (arith, sum-suc n f)))
+sum-zero n f e = sum-ext n f (λ k. 0) e ∙ sum-const n 0 ∙ mul-zero n
 
 -- a sum over a + b numbers is that over a and that over the b after them
 pub sum-split : (a b : ℕ) (f : ℕ → ℕ) → sumTo (a + b) f ≡ sumTo a f + sumTo b (λ j. f (a + j))
@@ -115,18 +79,6 @@ sum-swap (suc n) m f =
     ∙ sym (sum-ext m (λ j. sumTo (suc n) (λ i. f i j)) (λ j. sumTo n (λ i. f i j) + f n j) (λ j h. sum-suc n (λ i. f i j)))
 
 -- ---- counts
-
--- of the numbers below n none is i where n ≤ i
-pub count-none : (n i : ℕ) → n ≤ i → sumTo n (λ k. one-if (eqb k i)) ≡ 0
-count-none n i h = sum-zero n (λ k. one-if (eqb k i)) (λ k l. rw (ne-eqb k i (λ e. omega arith)))
-
--- .. and one is where i < n
-pub count-is : (n i : ℕ) → i < n → sumTo n (λ k. one-if (eqb k i)) ≡ 1
-count-is zero i h = absurd (not-suc-le-zero h)
-count-is (suc n) i h =
-    lt-or-le i n
-    (λ l. sum-suc n (λ k. one-if (eqb k i)) ∙ (rw (ne-eqb n i (λ e. omega arith)) (omega (arith, count-is n i l))))
-    (λ l. sum-suc n (λ k. one-if (eqb k i)) ∙ (rw (eq-eqb n i (omega arith)) (omega (arith, count-none n i (omega arith)))))
 
 -- a sum whose summands are 0 but at i is the summand there
 pub sum-only : (n i : ℕ) (f : ℕ → ℕ) → i < n → ((k : ℕ) → k < n → (k ≡ i → ⊥) → f k ≡ 0) → sumTo n f ≡ f i

@@ -1,20 +1,14 @@
 -- A writer on its way. Of the text W, all but `rest` is laid over the buffer l; what a callee was lent is the buffer from
 -- the place a on, and what it wrote stands there when the loan comes back.
 -- Assumes nothing.
-use Prim.Native.Nat.{ℕ, zero, suc, _+_, _-_, _≤_, _<_}
+use Prim.Native.Nat.{ℕ, suc, _+_, _-_, _<_}
 use mathlib.Core.Path.{_≡_, refl, sym, ap, _∙_}
 use mathlib.Core.List.{List, [], _∷_, _++_, append-assoc, append-nil}
 use native.Mathlib.Nat.{add-zero}
-use native.Mathlib.Numerals.{add-one}
 use native.Mathlib.Omega.{arith}
-use lib.ListN.{length, getD, take, drop, set, length-append, length-drop, length-take, drop-of-length-le}
+use lib.ListN.{length, getD, take, drop, set, length-append, length-drop, drop-of-length-le}
 use lib.Seq.{take-all, take-at, drop-at, drop-drop, drop-cons, set-at}
 use Rattle.laws.specs.Lists.{over}
-
--- what is written over the front leaves the length
-pub length-over : (a l : List ℕ) → length a ≤ length l → length (over a l) ≡ length l
-unfolding over
-length-over a l h = simp (length-append, length-drop) (omega arith)
 
 pub over-nothing : (l : List ℕ) → over [] l ≡ l
 unfolding over
@@ -27,6 +21,14 @@ over-next w p l =
     rw (length-append w p)
     (ap (λ (r : List ℕ). w ++ (p ++ r)) (drop-drop (length p) (length w) l) ∙ sym (append-assoc w p (drop (length w + length p) l)))
 
+-- what is lent from the place a on, to the end
+pub lent-rest : (a : ℕ) (xs : List ℕ) → take (length xs - a) (drop a xs) ≡ drop a xs
+lent-rest a xs = take-all (length xs - a) (drop a xs) (rw length-drop (omega arith))
+
+pub length-lent : (a : ℕ) (xs : List ℕ) → length (take (length xs - a) (drop a xs)) ≡ length xs - a
+length-lent a xs = ap length (lent-rest a xs) ∙ length-drop a xs
+
+-- of W, all but `rest` is laid over l; xs and a are the buffer and the place now
 pub record Wrote (W l rest xs : List ℕ) (a : ℕ) : Type 0 where
   pub w : List ℕ
   pub len : length w ≡ a
@@ -58,7 +60,7 @@ more W l rest xs p ys a r e =
     no-more = drop-of-length-le (drop a xs) {i = length xs - a} (rw length-drop (omega arith))
 
     whole-tail : ys ≡ over p (drop a xs)
-    whole-tail = e ∙ ap (over p) (take-all (length xs - a) (drop a xs) (rw length-drop (omega arith)))
+    whole-tail = e ∙ ap (over p) (lent-rest a xs)
 
     written : over p (drop a xs) ≡ over p (drop (length (r .w)) l)
     written = ap (over p) tail
@@ -97,10 +99,6 @@ next {W} {l} {rest} {rest′} {xs} {a} e r = record { w = r .w; len = r .len; is
 -- the place by another name
 pub moved : {W l rest xs : List ℕ} {a b : ℕ} → a ≡ b → Wrote W l rest xs a → Wrote W l rest xs b
 moved {W} {l} {rest} {xs} {a} {b} e r = record { w = r .w; len = r .len ∙ e; is = r .is; left = r .left }
-
--- what is lent from the place a on, to the end
-pub length-lent : (a : ℕ) (xs : List ℕ) → length (take (length xs - a) (drop a xs)) ≡ length xs - a
-length-lent a xs = simp (length-take, length-drop) (omega arith)
 
 -- after a first call that was lent the whole buffer
 pub begun : (l rest p ys : List ℕ) → ys ≡ over p l → Wrote (p ++ rest) l rest ys (length p)

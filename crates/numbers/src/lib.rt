@@ -1,8 +1,6 @@
 // Arithmetic of a plan: the greatest common divisor, and a duty's slice.
 ghost use mathlib.Core.Path.{_≡_};
-ghost use Prim.Native.Nat.{_+_, _*_, _/_, _%_, _≤_, _<_};
-ghost use lib.ListN.{length};
-ghost use lib.Dec.{eqb};
+ghost use Prim.Native.Nat.{_*_, _/_, _%_, _≤_, _<_};
 ghost use Rattle.laws.specs.Divisor.{gcd, gcdOf};
 ghost use Rattle.paper.specs.Words.{slice, whole};
 ghost use Rattle.paper.specs.Bytes.{mostTicks};

@@ -1,26 +1,27 @@
 -- A table is accepted exactly when it meets the plain statements of rules 11 to 17: the judge goes down the rules, so its answer is the
 -- table only if no rule's test finds a place, and then every rule's statement holds; and the converse.
 -- Assumes nothing.
-use Prim.Native.Nat.{ℕ, _*_, _≤_, _<_, _∣_}
-use mathlib.Core.Path.{_≡_, refl, ap}
-use mathlib.Core.Bool.{Bool, true, false, not}
+use Prim.Native.Nat.{ℕ, _≤_, _<_, _∣_}
+use mathlib.Core.Path.{_≡_, sym, ap, _∙_}
+use mathlib.Core.Bool.{true, false, not}
 use mathlib.Core.List.{List, map}
 use mathlib.Core.Logic.{_↔_}
 use native.Mathlib.Omega.{arith}
 use lib.Dec.{ltb, eqb}
 use lib.ListN.{length, length-map, List·getD-map}
 use borrow.Author.Tests.{eqb-true, eq-eqb, not-false}
-use Rattle.laws.specs.Choice.{pick}
 use Rattle.laws.proofs.Search.{none-clear, clear-none}
+use Rattle.laws.proofs.Decides.{eqb-decides, none-found}
 use Rattle.laws.proofs.Divisor.{gcdOf-divides}
 use Rattle.paper.specs.declared.Duty.{Duty}
-use Rattle.paper.specs.Words.{duty, slice, blockLengthOf, whole, dutyAt, runAt, Table}
-use Rattle.paper.specs.Outcome.{Outcome, refused, answer, andThen}
+use Rattle.paper.specs.Words.{duty, slice, blockLengthOf, dutyAt, runAt, Table}
+use Rattle.paper.specs.Outcome.{answer}
 use Rattle.paper.specs.Bytes.{Width, small, parse}
 use Rattle.paper.specs.Builder.{badSlice}
 use Rattle.paper.specs.Rules.{unordered, overlaps, joins, twice, lowest, unitsOf, badSum, badOrder, judgeRuns, judgeTable, accepted}
 use Rattle.paper.specs.Statements.{Ranged, Meets}
-use Rattle.paper.proofs.Rules.{InOrder, ordered-clear, clear-ordered, lowest-none, none-lowest, overlaps-apart, apart-overlaps, joins-any, not-joins, twice-apart, apart-twice, whole-divides, divides-whole}
+use Rattle.paper.proofs.Rules.{InOrder, ordered-clear, clear-ordered, lowest-none, none-lowest, overlaps-apart, apart-overlaps, joins-any, not-joins, twice-apart, apart-twice, whole-decides, Wholes}
+use Rattle.paper.proofs.Outcomes.{answer-one, then-answer, past}
 
 -- ---- the judge's way down the rules
 
@@ -34,11 +35,6 @@ pub record Passed (t : Table) : Type 0 where
   pub twofold : ltb (lowest twice (t .runs)) (length (t .runs)) ≡ false
   pub sums : ltb (badSum t) (length (t .duties)) ≡ false
 
--- an answer after a test for a fault: the test failed, and what follows gave the answer
-pub past : {A : Type 0} (b : Bool) (n p : ℕ) (rest : Outcome A) (a : A) → pick b (refused n p) rest ≡ answer a → (b ≡ false) × (rest ≡ answer a)
-past true n p rest a h = (cc, cc)
-past false n p rest a h = (refl, h)
-
 judge-runs-passed : (t s : Table) → eqb (t .ticks) (blockLengthOf (t .duties)) ≡ true → ltb (badSlice (t .ticks) (t .duties)) (length (t .duties)) ≡ false → judgeRuns t ≡ answer s → Passed t × (s ≡ t)
 unfolding judgeRuns
 judge-runs-passed t s h11 h12 h =
@@ -47,10 +43,7 @@ judge-runs-passed t s h11 h12 h =
     let h15 = past (ltb (lowest joins (t .runs)) (length (t .runs))) 15 (lowest joins (t .runs)) _ s (h14 .1) in
     let h16 = past (ltb (lowest twice (t .runs)) (length (t .runs))) 16 (lowest twice (t .runs)) _ s (h15 .1) in
     let h17 = past (ltb (badSum t) (length (t .duties))) 17 (badSum t) _ s (h16 .1) in
-    (record { block-length = h11; slices = h12; order = h13 .0; overlap = h14 .0; joint = h15 .0; twofold = h16 .0; sums = h17 .0 }, same-answer (h17 .1))
-  where
-    same-answer : answer t ≡ answer s → s ≡ t
-    same-answer e = cc
+    (record { block-length = h11; slices = h12; order = h13 .0; overlap = h14 .0; joint = h15 .0; twofold = h16 .0; sums = h17 .0 }, sym (answer-one t s (h17 .1)))
 
 -- the judge answers nothing but the table itself, and that only where no test finds a place
 judge-passed : (t s : Table) → judgeTable t ≡ answer s → Passed t × (s ≡ t)
@@ -80,47 +73,33 @@ pub ranged-long : {w : Width} {t : Table} → Ranged w t → Long t
 ranged-long r k h = r .run-ranged k h .some-units
 
 -- 12 and 17 are searches over the duties
-slices-met : (t : ℕ) (ds : List Duty) → ltb (badSlice t ds) (length ds) ≡ false → (i : ℕ) → i < length ds → dutyAt ds i .period ∣ t * dutyAt ds i .service
+pub slices-met : (t : ℕ) (ds : List Duty) → (ltb (badSlice t ds) (length ds) ≡ false) ↔ Wholes t ds
 unfolding badSlice
-slices-met t ds h i l =
-    whole-divides t (dutyAt ds i) (not-false (whole t (dutyAt ds i)) (none-clear (λ d. not (whole t (dutyAt ds d))) (length ds) h i l))
+slices-met t ds = none-found (λ i. whole-decides t (dutyAt ds i)) (length ds)
 
-met-slices : (t : ℕ) (ds : List Duty) → ((i : ℕ) → i < length ds → dutyAt ds i .period ∣ t * dutyAt ds i .service) → ltb (badSlice t ds) (length ds) ≡ false
-unfolding badSlice
-met-slices t ds h = clear-none (λ d. not (whole t (dutyAt ds d))) (length ds) (λ i l. ap not (divides-whole t (dutyAt ds i) (h i l)))
-
-sums-met : (t : Table) → ltb (badSum t) (length (t .duties)) ≡ false → (i : ℕ) → i < length (t .duties) → unitsOf (t .runs) i ≡ slice (t .ticks) (dutyAt (t .duties) i)
+sums-met : (t : Table) → (ltb (badSum t) (length (t .duties)) ≡ false) ↔ ((i : ℕ) → i < length (t .duties) → unitsOf (t .runs) i ≡ slice (t .ticks) (dutyAt (t .duties) i))
 unfolding badSum
-sums-met t h i l =
-    let is : ℕ → Bool = λ d. eqb (unitsOf (t .runs) d) (slice (t .ticks) (dutyAt (t .duties) d)) in
-    eqb-true _ _ (not-false (is i) (none-clear (λ d. not (is d)) (length (t .duties)) h i l))
-
-met-sums : (t : Table) → ((i : ℕ) → i < length (t .duties) → unitsOf (t .runs) i ≡ slice (t .ticks) (dutyAt (t .duties) i)) → ltb (badSum t) (length (t .duties)) ≡ false
-unfolding badSum
-met-sums t h =
-    let is : ℕ → Bool = λ d. eqb (unitsOf (t .runs) d) (slice (t .ticks) (dutyAt (t .duties) d)) in
-    clear-none (λ d. not (is d)) (length (t .duties)) (λ i l. ap not (eq-eqb _ _ (h i l)))
+sums-met t = none-found (λ i. eqb-decides (unitsOf (t .runs) i) (slice (t .ticks) (dutyAt (t .duties) i))) (length (t .duties))
 
 -- 13 is a search over the runs
-order-met : (t : Table) → ltb (badOrder t) (length (t .runs)) ≡ false → InOrder (t .runs)
+order-met : (t : Table) → (ltb (badOrder t) (length (t .runs)) ≡ false) ↔ InOrder (t .runs)
 unfolding badOrder
-order-met t h = ordered-clear (t .runs) (none-clear (unordered (t .runs)) (length (t .runs)) h)
-
-met-order : (t : Table) → InOrder (t .runs) → ltb (badOrder t) (length (t .runs)) ≡ false
-unfolding badOrder
-met-order t o = clear-none (unordered (t .runs)) (length (t .runs)) (clear-ordered (t .runs) o)
+order-met t = (
+  (λ h. ordered-clear (t .runs) (none-clear (unordered (t .runs)) (length (t .runs)) h)),
+  (λ o. clear-none (unordered (t .runs)) (length (t .runs)) (clear-ordered (t .runs) o)),
+)
 
 passed-meets : (t : Table) → Long t → Passed t → Meets t
 passed-meets t long p =
     let xs = t .runs in
     record {
       block-length = eqb-true (t .ticks) (blockLengthOf (t .duties)) (p .block-length);
-      slices-whole = slices-met (t .ticks) (t .duties) (p .slices);
-      in-order = order-met t (p .order);
+      slices-whole = slices-met (t .ticks) (t .duties) .0 (p .slices);
+      in-order = order-met t .0 (p .order);
       apart-in-row = λ j k l h. overlaps-apart (runAt xs j) (runAt xs k) (lowest-none overlaps xs (p .overlap) j k l h);
-      not-joined = joins-any xs (order-met t (p .order)) long (lowest-none joins xs (p .joint));
+      not-joined = joins-any xs (order-met t .0 (p .order)) long (lowest-none joins xs (p .joint));
       apart-of-duty = λ j k l h. twice-apart (runAt xs j) (runAt xs k) (lowest-none twice xs (p .twofold) j k l h);
-      sums-right = sums-met t (p .sums);
+      sums-right = sums-met t .0 (p .sums);
     }
 
 meets-passed : (t : Table) → Long t → Meets t → Passed t
@@ -128,12 +107,12 @@ meets-passed t long m =
     let xs = t .runs in
     record {
       block-length = eq-eqb (t .ticks) (blockLengthOf (t .duties)) (m .block-length);
-      slices = met-slices (t .ticks) (t .duties) (m .slices-whole);
-      order = met-order t (m .in-order);
+      slices = slices-met (t .ticks) (t .duties) .1 (m .slices-whole);
+      order = order-met t .1 (m .in-order);
       overlap = none-lowest overlaps xs (λ j k l h. apart-overlaps (runAt xs j) (runAt xs k) (long j (omega arith)) (long k h) (m .apart-in-row j k l h));
       joint = none-lowest joins xs (λ j k l h. not-joins (runAt xs j) (runAt xs k) (m .not-joined j k (omega arith) h));
       twofold = none-lowest twice xs (λ j k l h. apart-twice (runAt xs j) (runAt xs k) (long j (omega arith)) (long k h) (m .apart-of-duty j k l h));
-      sums = met-sums t (m .sums-right);
+      sums = sums-met t .1 (m .sums-right);
     }
 
 -- "A table that meets none of 10 to 17 is accepted", and no other is
@@ -145,11 +124,10 @@ accepted-iff t long = ((λ h. passed-meets t long (accepted-passed t h)), (λ m.
 -- the table in accepted bytes is the one read, and it passed the judge
 pub accepted-read : (b : List ℕ) (t : Table) → accepted b ≡ answer t → (parse small b ≡ answer t) × (judgeTable t ≡ answer t)
 unfolding accepted
-accepted-read b t h = go (parse small b) refl h
-  where
-    go : (o : Outcome Table) → parse small b ≡ o → andThen o judgeTable ≡ answer t → (parse small b ≡ answer t) × (judgeTable t ≡ answer t)
-    go (refused n p) e q = (cc, cc)
-    go (answer s) e q = let p = judge-same s t q in (rw p e, rw p (rw p at q))
+accepted-read b t h =
+    let r = then-answer (parse small b) judgeTable t h in
+    let p = judge-same (r .0) t (r .2) in
+    (r .1 ∙ ap answer (sym p), ap judgeTable p ∙ r .2)
 
 pub read-accepted : (b : List ℕ) (t : Table) → parse small b ≡ answer t → judgeTable t ≡ answer t → accepted b ≡ answer t
 unfolding accepted

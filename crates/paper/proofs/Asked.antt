@@ -3,19 +3,16 @@
 -- Assumes nothing.
 use Prim.Native.Nat.{ℕ, zero, suc, _+_, _-_, _/_, _^_, _≤_, _<_}
 use mathlib.Core.Path.{_≡_}
-use mathlib.Core.Bool.{false}
 use mathlib.Core.List.{List}
 use native.Mathlib.Omega.{arith}
 use borrow.Author.Tests.{lt-ltb, le-ltb, ne-eqb}
-use Rattle.laws.specs.Lists.{same-list}
-use Rattle.laws.proofs.Cases.{by-cases}
-use Rattle.laws.proofs.Lists.{same-list-eq, same-list-refl}
+use Rattle.laws.proofs.Lists.{same-list-refl, same-list-not}
 use Rattle.paper.specs.declared.Engine.{Engine}
 use Rattle.paper.specs.Words.{Table}
 use Rattle.paper.specs.Rotation.{link, rowAt}
 use Rattle.paper.specs.Schedule.{walk, loads}
 use Rattle.paper.specs.Outcome.{Outcome, refused, answer, andThen}
-use Rattle.paper.specs.Rules.{readingOf, accepted, judged}
+use Rattle.paper.specs.Rules.{accepted}
 use Rattle.paper.specs.Answers.{State, rowsAt, stateAt, mostBlocks, question, start, rowTold, advanced, counted}
 
 -- the state after n boundaries more
@@ -23,42 +20,7 @@ unfoldable pub advancedBy : List ℕ → ℕ → State → Outcome State
 advancedBy b zero s = answer s
 advancedBy b (suc n) s = andThen (advancedBy b n s) (advanced b)
 
--- a list that is not the other fails the test
-not-same : (xs ys : List ℕ) → (xs ≡ ys → ⊥) → same-list xs ys ≡ false
-not-same xs ys n = by-cases (same-list xs ys) (λ h. absurd (n (same-list-eq xs ys h))) (λ h. h)
-
--- what is refused as a table is refused in every call
-module _ (b : List ℕ) (n p : ℕ) (h : accepted b ≡ refused n p) where
-  pub judged-refused : judged b ≡ refused n p
-  unfolding judged
-  judged-refused = rw h
-
-  pub question-refused : (e : Engine) (k : ℕ) → question b e k ≡ refused n p
-  unfolding question
-  question-refused e k = rw h
-
-  pub start-refused : (k : ℕ) → start b k ≡ refused n p
-  unfolding start
-  start-refused k = rw h
-
-  pub row-refused : (s : State) (e : Engine) → rowTold b s e ≡ refused n p
-  unfolding rowTold
-  row-refused s e = rw h
-
-  pub next-refused : (s : State) → advanced b s ≡ refused n p
-  unfolding advanced
-  next-refused s = rw h
-
-  pub counted-refused : (k : ℕ) → counted b k ≡ refused n p
-  unfolding counted
-  counted-refused k = rw h
-
 module _ (b : List ℕ) (t : Table) (h : accepted b ≡ answer t) where
-  -- the judge tells the reading
-  pub judged-is : judged b ≡ answer (readingOf t)
-  unfolding judged
-  judged-is = rw h
-
   -- the question tells what the walk runs, and the row
   pub question-is : (e : Engine) (k : ℕ) → e .0 < t .engines → question b e k ≡ answer (record { held = walk t e k; row = rowAt (link t) (k / t .ticks) e })
   unfolding question
@@ -96,11 +58,11 @@ module _ (b : List ℕ) (t : Table) (h : accepted b ≡ answer t) where
   -- a state whose rows are not its block's is refused
   pub row-strange : (s : State) (e : Engine) → e .0 < t .engines → (s .rows ≡ rowsAt t (s .block) → ⊥) → rowTold b s e ≡ refused 20 0
   unfolding rowTold
-  row-strange s e l n = rw (h, lt-ltb (e .0) (t .engines) l, not-same (s .rows) (rowsAt t (s .block)) n)
+  row-strange s e l n = rw (h, lt-ltb (e .0) (t .engines) l, same-list-not (s .rows) (rowsAt t (s .block)) n)
 
   pub next-strange : (s : State) → (s .rows ≡ rowsAt t (s .block) → ⊥) → advanced b s ≡ refused 20 0
   unfolding advanced
-  next-strange s n = rw (h, not-same (s .rows) (rowsAt t (s .block)) n)
+  next-strange s n = rw (h, same-list-not (s .rows) (rowsAt t (s .block)) n)
 
   -- n boundaries from block k on: the state of block k + n
   pub next-all : (n k : ℕ) → k + n < 2 ^ 64 → advancedBy b n (stateAt t k) ≡ answer (stateAt t (k + n))

@@ -3,13 +3,13 @@
 -- Assumes nothing.
 use Prim.Native.Nat.{ℕ, _+_, _*_, _<_}
 use mathlib.Core.Path.{_≡_, _∙_}
-use mathlib.Core.List.{List, _∷_, _++_}
+use mathlib.Core.List.{List, [], _∷_, _++_}
 use native.Mathlib.Omega.{arith}
 use lib.ListN.{length, length-append}
 use Rattle.laws.specs.Lists.{flat}
 use Rattle.laws.specs.Digits.{digits}
 use Rattle.laws.proofs.Lists.{length-flat}
-use Rattle.laws.proofs.Digits.{AreBytes, length-digits, digits-bytes, bytes-append, bytes-cons, bytes-flat}
+use Rattle.laws.proofs.Digits.{AreBytes, length-digits, bytes-one, bytes-append, bytes-field, bytes-flat}
 use Rattle.laws.proofs.Parts.{Holds, holds-all, holds-at, holds-left, holds-right, holds-flat}
 use Rattle.paper.specs.declared.Duty.{Duty}
 use Rattle.paper.specs.declared.Run.{Run}
@@ -107,35 +107,31 @@ end-stands w t =
 head-bytes : (w : Width) (t : Table) → w .headKind < 256 → AreBytes (headBytes w t)
 unfolding headBytes
 head-bytes w t h =
-    bytes-append (w .headKind ∷ digits 4 (t .ticks) ++ digits 1 (t .engines)) (digits (w .dutyField) (length (t .duties)))
-    (bytes-append (w .headKind ∷ digits 4 (t .ticks)) (digits 1 (t .engines))
-    (bytes-cons (w .headKind) (digits 4 (t .ticks)) h (digits-bytes 4 (t .ticks))) (digits-bytes 1 (t .engines)))
-    (digits-bytes (w .dutyField) (length (t .duties)))
+    let kind = w .headKind ∷ [] in
+    let ticks = kind ++ digits 4 (t .ticks) in
+    bytes-field (ticks ++ digits 1 (t .engines)) (w .dutyField) (length (t .duties))
+    (bytes-field ticks 1 (t .engines) (bytes-field kind 4 (t .ticks) (bytes-one (w .headKind) h)))
 
 -- a duty's
 duty-bytes : (x : Duty) → AreBytes (dutyBytes x)
 unfolding dutyBytes
 duty-bytes x =
-    bytes-append (2 ∷ digits 4 (x .service)) (digits 4 (x .period))
-    (bytes-cons 2 (digits 4 (x .service)) (omega arith) (digits-bytes 4 (x .service))) (digits-bytes 4 (x .period))
+    bytes-field (2 ∷ digits 4 (x .service)) 4 (x .period) (bytes-field (2 ∷ []) 4 (x .service) (bytes-one 2 (omega arith)))
 
 -- a run's, where its kind is a byte
 run-bytes : (w : Width) (x : Run) → w .runKind < 256 → AreBytes (runBytes w x)
 unfolding runBytes
 run-bytes w x h =
-    let a = w .runKind ∷ digits 1 (x .row .0) in
-    let c = digits (w .dutyField) (x .duty) in
-    let d = digits 4 (x .first) in
-    bytes-append (a ++ c ++ d) (digits 4 (x .length))
-    (bytes-append (a ++ c) d
-    (bytes-append a c (bytes-cons (w .runKind) (digits 1 (x .row .0)) h (digits-bytes 1 (x .row .0))) (digits-bytes (w .dutyField) (x .duty)))
-    (digits-bytes 4 (x .first)))
-    (digits-bytes 4 (x .length))
+    let kind = w .runKind ∷ [] in
+    let row = kind ++ digits 1 (x .row .0) in
+    let duty = row ++ digits (w .dutyField) (x .duty) in
+    bytes-field (duty ++ digits 4 (x .first)) 4 (x .length)
+    (bytes-field duty 4 (x .first) (bytes-field row (w .dutyField) (x .duty) (bytes-field kind 1 (x .row .0) (bytes-one (w .runKind) h))))
 
 -- the end record's
 end-bytes : (n : ℕ) → AreBytes (endBytes n)
 unfolding endBytes
-end-bytes n = bytes-cons 4 (digits 2 n) (omega arith) (digits-bytes 2 n)
+end-bytes n = bytes-field (4 ∷ []) 2 n (bytes-one 4 (omega arith))
 
 -- and all of them
 pub encode-bytes : (w : Width) (t : Table) → w .headKind < 256 → w .runKind < 256 → AreBytes (encode w t)

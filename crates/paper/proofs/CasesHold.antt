@@ -2,9 +2,8 @@
 -- stated of a table is computed from it. The loads of all blocks follow from those of the first two, for every block after the first has
 -- as many.
 -- Assumes nothing.
-use Prim.Native.Nat.{ℕ, suc, _+_, _-_, _*_, _<_}
-use mathlib.Core.Path.{_≡_, refl, ap, _∙_}
-use mathlib.Core.Bool.{false}
+use Prim.Native.Nat.{ℕ, suc, _+_, _<_}
+use mathlib.Core.Path.{_≡_, refl, _∙_}
 use mathlib.Core.List.{List, [], _∷_}
 use native.Mathlib.Omega.{arith}
 use lib.ListN.{length}
@@ -14,6 +13,7 @@ use Rattle.laws.specs.Divisor.{gcd, gcdOf, euclid}
 use Rattle.laws.specs.Lists.{tab, flat, sumOf}
 use Rattle.laws.specs.Digits.{digits}
 use Rattle.laws.proofs.Each.{Each, each-at}
+use Rattle.paper.specs.declared.Run.{Run}
 use Rattle.paper.specs.Words.{run, Table, covers, heldIn, same, whole, slice, blockLengthOf}
 use Rattle.paper.specs.Sa1.{sa1, lay, layOne, rowAfter, unitAfter}
 use Rattle.paper.specs.Rotation.{link, firstOf, nextOf, rowAt, chainLength, chainsBelow}
@@ -28,45 +28,30 @@ use Rattle.paper.proofs.Loads.{later, loads-more, loads-closed, later-i
 
 -- ---- the tables
 
+-- a set's table, by its block length and its runs
+abbrev tableOf : Case → ℕ → List Run → Table
+tableOf c t xs = record { ticks = t; engines = c .engines; duties = c .duties; runs = xs }
+
 abbrev t1 : Table
-t1 = record { ticks = 3; engines = 2; duties = p1 .duties; runs = run 0 0 0 2 ∷ run 0 1 2 1 ∷ run 1 1 0 1 ∷ run 1 2 1 2 ∷ [] }
+t1 = tableOf p1 3 (run 0 0 0 2 ∷ run 0 1 2 1 ∷ run 1 1 0 1 ∷ run 1 2 1 2 ∷ [])
 
 abbrev t2 : Table
-t2 = record { ticks = 1; engines = 1; duties = p2 .duties; runs = run 0 0 0 1 ∷ [] }
+t2 = tableOf p2 1 (run 0 0 0 1 ∷ [])
 
 abbrev t3 : Table
-t3 = record { ticks = 2; engines = 1; duties = p3 .duties; runs = run 0 0 0 1 ∷ run 0 1 1 1 ∷ [] }
+t3 = tableOf p3 2 (run 0 0 0 1 ∷ run 0 1 1 1 ∷ [])
 
 abbrev t6 : Table
-t6 = record { ticks = 3; engines = 2; duties = p6 .duties; runs = run 0 0 0 3 ∷ run 1 1 0 2 ∷ [] }
+t6 = tableOf p6 3 (run 0 0 0 3 ∷ run 1 1 0 2 ∷ [])
 
 abbrev t7 : Table
-t7 = record { ticks = 3; engines = 2; duties = p7 .duties; runs = run 0 0 0 1 ∷ run 0 1 1 2 ∷ run 1 1 0 1 ∷ run 1 2 1 1 ∷ [] }
+t7 = tableOf p7 3 (run 0 0 0 1 ∷ run 0 1 1 2 ∷ run 1 1 0 1 ∷ run 1 2 1 1 ∷ [])
 
 abbrev t8 : Table
-t8 =
-    record {
-      ticks = 10;
-      engines = 4;
-      duties = p8 .duties;
-      runs =
-          run 0 0 0 7 ∷ run 0 1 7 3
-          ∷ run 1 1 0 1 ∷ run 1 2 1 5 ∷ run 1 3 6 4
-          ∷ run 2 4 0 2 ∷ run 2 5 2 7 ∷ run 2 6 9 1
-          ∷ run 3 6 0 1 ∷ run 3 7 1 9 ∷ [];
-    }
+t8 = tableOf p8 10 (run 0 0 0 7 ∷ run 0 1 7 3 ∷ run 1 1 0 1 ∷ run 1 2 1 5 ∷ run 1 3 6 4 ∷ run 2 4 0 2 ∷ run 2 5 2 7 ∷ run 2 6 9 1 ∷ run 3 6 0 1 ∷ run 3 7 1 9 ∷ [])
 
 abbrev t9 : Table
-t9 =
-    record {
-      ticks = 4;
-      engines = 3;
-      duties = p9 .duties;
-      runs =
-          run 0 0 0 3 ∷ run 0 1 3 1
-          ∷ run 1 1 0 2 ∷ run 1 2 2 2
-          ∷ run 2 2 0 1 ∷ run 2 3 1 3 ∷ [];
-    }
+t9 = tableOf p9 4 (run 0 0 0 3 ∷ run 0 1 3 1 ∷ run 1 1 0 2 ∷ run 1 2 2 2 ∷ run 2 2 0 1 ∷ run 2 3 1 3 ∷ [])
 
 -- the builder makes them ..
 made : (outcome p1 ≡ answer t1) × (outcome p2 ≡ answer t2) × (outcome p3 ≡ answer t3) × (outcome p6 ≡ answer t6)
@@ -81,50 +66,36 @@ not-made = (refl, refl, refl)
 
 -- ---- their loads
 
--- in the first block and in the first two
-first-two : (loads t1 1 ≡ 4) × (loads t1 2 ≡ 4 + 3) × (loads t2 1 ≡ 1) × (loads t2 2 ≡ 1 + 0) × (loads t3 1 ≡ 2) × (loads t3 2 ≡ 2 + 2)
-    × (loads t6 1 ≡ 2) × (loads t6 2 ≡ 2 + 1) × (loads t8 1 ≡ 10) × (loads t8 2 ≡ 10 + 8)
-unfolding loads loadsIn load walk rowAt nextOf firstOf link heldIn covers same sumTo
-first-two = (refl, refl, refl, refl, refl, refl, refl, refl, refl, refl)
+-- nothing is chained to the last row; the first block has a loads, and the second adds b
+abbrev FirstTwo : Table → ℕ → ℕ → Type 0
+FirstTwo t a b = Closed t × (loads t 1 ≡ a) × (loads t 2 ≡ a + b)
 
--- nothing is chained to the last row
-last-row : (link t1 1 ≡ false) × (link t2 0 ≡ false) × (link t3 0 ≡ false) × (link t6 1 ≡ false) × (link t8 3 ≡ false)
-unfolding link heldIn covers same
-last-row = (refl, refl, refl, refl, refl)
+first-two : FirstTwo t1 4 3 × FirstTwo t2 1 0 × FirstTwo t3 2 2 × FirstTwo t6 2 1 × FirstTwo t8 10 8
+unfolding loads loadsIn load walk rowAt nextOf firstOf link heldIn covers same sumTo
+first-two = (
+  (record { some-tick = omega arith; some-engine = omega arith; no-link = refl }, refl, refl),
+  (record { some-tick = omega arith; some-engine = omega arith; no-link = refl }, refl, refl),
+  (record { some-tick = omega arith; some-engine = omega arith; no-link = refl }, refl, refl),
+  (record { some-tick = omega arith; some-engine = omega arith; no-link = refl }, refl, refl),
+  (record { some-tick = omega arith; some-engine = omega arith; no-link = refl }, refl, refl),
+)
 
 -- so every later block has the loads that the second adds
-loads-then : (t : Table) (a b : ℕ) → Closed t → loads t 1 ≡ a → loads t 2 ≡ a + b → LoadsThen t a b
-loads-then t a b ok p q = (p, λ n. more n)
+loads-then : (t : Table) (a b : ℕ) → FirstTwo t a b → LoadsThen t a b
+loads-then t a b f = (f .1, more)
   where
     more : (n : ℕ) → loads t (n + 2) ≡ loads t (n + 1) + b
     more n =
         let y : n + 1 ≡ suc n = omega arith in
         let z : n + 2 ≡ suc (suc n) = omega arith in
-        rw (y, z) (omega (arith, loads-more t ok n, later-is t ok))
-
-loads1 : LoadsThen t1 4 3
-loads1 = loads-then t1 4 3 (record { some-tick = omega arith; some-engine = omega arith; no-link = last-row .0 }) (first-two .0) (first-two .1)
-
-loads2 : LoadsThen t2 1 0
-loads2 = loads-then t2 1 0 (record { some-tick = omega arith; some-engine = omega arith; no-link = last-row .1 }) (first-two .2) (first-two .3)
-
-loads3 : LoadsThen t3 2 2
-loads3 = loads-then t3 2 2 (record { some-tick = omega arith; some-engine = omega arith; no-link = last-row .2 }) (first-two .4) (first-two .5)
-
-loads6 : LoadsThen t6 2 1
-loads6 = loads-then t6 2 1 (record { some-tick = omega arith; some-engine = omega arith; no-link = last-row .3 }) (first-two .6) (first-two .7)
-
-closed8 : Closed t8
-closed8 = record { some-tick = omega arith; some-engine = omega arith; no-link = last-row .4 }
-
-loads8 : LoadsThen t8 10 8
-loads8 = loads-then t8 10 8 closed8 (first-two .8) (first-two .9)
+        rw (y, z) (omega (arith, loads-more t (f .0) n, later-is t (f .0), f .1, f .2))
 
 -- P8's 420 blocks
 over8 : loads t8 420 ≡ 3_362
 over8 =
-    let z : later t8 ≡ 8 = omega (arith, later-is t8 closed8, first-two .8, first-two .9) in
-    loads-closed t8 closed8 419 ∙ rw (z, first-two .8)
+    let f = first-two .4 in
+    let z : later t8 ≡ 8 = omega (arith, later-is t8 (f .0), f .1, f .2) in
+    loads-closed t8 (f .0) 419 ∙ rw (z, f .1)
 
 -- ---- all that is stated
 
@@ -139,18 +110,18 @@ printed1 = refl
 
 hold1 : Holds p1
 unfolding chainsBelow chainLength sumTo firstOf link heldIn covers same walk rowAt nextOf
-hold1 = planned p1 t1 (made .0) (refl, (refl, (refl, (refl, (refl, (loads1, (printed1, (refl, (refl, tt)))))))))
+hold1 = planned p1 t1 (made .0) (refl, (refl, (refl, (refl, (refl, (loads-then t1 4 3 (first-two .0), (printed1, (refl, (refl, tt)))))))))
 
 hold2 : Holds p2
 unfolding encode headBytes dutyBytes runBytes endBytes flat digits
-hold2 = planned p2 t2 (made .1) (loads2, (refl, tt))
+hold2 = planned p2 t2 (made .1) (loads-then t2 1 0 (first-two .1), (refl, tt))
 
 hold3 : Holds p3
-hold3 = planned p3 t3 (made .2) (loads3, tt)
+hold3 = planned p3 t3 (made .2) (loads-then t3 2 2 (first-two .2), tt)
 
 hold6 : Holds p6
 unfolding chainsBelow chainLength sumTo firstOf link heldIn covers same
-hold6 = planned p6 t6 (made .3) (refl, (refl, (loads6, tt)))
+hold6 = planned p6 t6 (made .3) (refl, (refl, (loads-then t6 2 1 (first-two .3), tt)))
 
 hold7 : Holds p7
 unfolding pieces walk rowAt nextOf firstOf link heldIn covers same
@@ -158,7 +129,7 @@ hold7 = planned p7 t7 (made .4) (refl, (refl, (refl, tt)))
 
 hold8 : Holds p8
 unfolding chainsBelow chainLength sumTo firstOf link heldIn covers same slice
-hold8 = planned p8 t8 (made .5) (refl, (refl, (refl, (loads8, (over8, tt)))))
+hold8 = planned p8 t8 (made .5) (refl, (refl, (refl, (loads-then t8 10 8 (first-two .4), (over8, tt)))))
 
 hold9 : Holds p9
 unfolding chainsBelow chainLength sumTo firstOf link heldIn covers same rowAt nextOf tab

@@ -2,7 +2,7 @@
 -- Engine e, b blocks on, has the row b places further round its chain: a step goes one place on, and from the last place to the first.
 -- Assumes nothing.
 use Prim.Native.Nat.{ℕ, zero, suc, _+_, _-_, _%_, _≤_, _<_}
-use mathlib.Core.Path.{_≡_, refl, sym, ap, _∙_}
+use mathlib.Core.Path.{_≡_, sym, ap, _∙_}
 use mathlib.Core.Bool.{Bool, true, false, _&&_}
 use mathlib.Core.List.{[], _∷_, _++_, append-nil}
 use native.Mathlib.Nat.{mod-eq-of-lt, add-mod-left, add-mod-mod}
@@ -84,15 +84,6 @@ module _ (c : ℕ → Bool) where
   pub chain-below : (m : ℕ) → firstOf c m ≡ m → {e from to : ℕ} → InChain c e from to → e < m → to < m
   chain-below m s {e} {from} {to} i h =
       lt-or-le to m (λ l. l) (λ l. absurd (omega (arith, chain-first (chain-other m i (omega arith) l))))
-
-  -- below a row that begins a chain every row's chain has a last row
-  pub chain-exists : (m : ℕ) → firstOf c m ≡ m → (e : ℕ) → e < m → (to : ℕ) × InChain c e (firstOf c e) to
-  chain-exists m s e h = go (m - e) e (omega arith) (omega arith) refl
-    where
-      go : (n d : ℕ) → d + n ≡ m → e ≤ d → firstOf c d ≡ firstOf c e → (to : ℕ) × InChain c e (firstOf c e) to
-      go zero d p l q = let z : d ≡ m = omega arith in absurd (omega (arith, ap (firstOf c) z, first-least c e))
-      go (suc n) d p l q =
-          by-cases (c d) (λ y. go n (suc d) (omega arith) (omega arith) (first-linked c d y ∙ q)) (λ y. (d, in-chain l q y))
 
   -- a row has the chain's first row exactly where it is between the chain's ends
   between : {e from to : ℕ} → InChain c e from to → (k : ℕ) → eqb (firstOf c k) from ≡ leb from k && ltb k (from + (to + 1 - from))

@@ -1,7 +1,7 @@
 -- The three demands on the base, as theorems on the definitions. Each is a citation; the arguments stand in the files named in the `use` lines.
 -- What the code does is tied to these definitions by the contracts, each of which is an equation with one of them.
 -- Assumes nothing.
-use Prim.Native.Nat.{ℕ, _+_, _-_, _*_, _/_, _%_, _^_, _≤_, _<_}
+use Prim.Native.Nat.{ℕ, _+_, _*_, _/_, _%_, _^_, _≤_, _<_}
 use mathlib.Core.Path.{_≡_, refl}
 use mathlib.Core.List.{List}
 use mathlib.Core.Logic.{_↔_, _⊎_, inl, inr}
@@ -24,7 +24,8 @@ use Rattle.paper.specs.Answers.{State, rowsAt, stateAt, mostBlocks, ques
 use Rattle.paper.specs.Text.{servicesOf, periodsOf, input}
 use Rattle.paper.proofs.Rotation.{row-start, row-after}
 use Rattle.paper.proofs.Service.{meets-serving, job-served, never-twice, one-engine}
-use Rattle.paper.proofs.PlanWhen.{From, When, plan-when}
+use Rattle.paper.proofs.Passed.{From}
+use Rattle.paper.proofs.PlanWhen.{When, plan-when}
 use Rattle.paper.proofs.Planned.{planned-sa1, planned-engines, planned-services, planned-periods, WhenBuilt, built-when, built, built-accepted}
 use Rattle.paper.proofs.AcceptedBytes.{accepted-ranged, accepted-meets, accepted-when}
 use Rattle.paper.proofs.Listed.{Listed, build-listed, judged-listed, question-listed, start-listed, row-listed, next-listed, counted-listed, input-listed}

@@ -1,25 +1,25 @@
 -- The fields of a table's bytes are the table's numbers, provided that each number fits its field: each field is read at
--- the place where its bytes stand. So the bytes determine the table.
+-- the place where its bytes stand.
 -- Assumes nothing.
 use Prim.Native.Nat.{ℕ, suc, _+_, _^_, _<_}
-use mathlib.Core.Path.{_≡_, sym, ap, _∙_}
+use mathlib.Core.Path.{_≡_, _∙_}
 use mathlib.Core.Bool.{true}
 use mathlib.Core.List.{List, [], _∷_, _++_}
-use native.Mathlib.Nat.{eq-of-mul-eq-mul-left}
 use native.Mathlib.Omega.{arith}
 use lib.Dec.{leb, eqb}
 use lib.ListN.{length, getD, length-append}
 use borrow.Author.Tests.{le-leb, eq-eqb}
 use Rattle.laws.specs.Lists.{tab}
 use Rattle.laws.specs.Digits.{digits, numAt}
-use Rattle.laws.proofs.Lists.{and-both, tab-ext, tab-getD}
+use Rattle.laws.proofs.Cases.{and-both}
+use Rattle.laws.proofs.Lists.{tab-ext, tab-getD}
 use Rattle.laws.proofs.Digits.{length-digits}
-use Rattle.laws.proofs.Parts.{Holds, holds-at, holds-left, holds-right, holds-room, holds-first, holds-num}
+use Rattle.laws.proofs.Parts.{Holds, holds-left, holds-room, holds-first, holds-field}
 use Rattle.paper.specs.declared.Duty.{Duty}
 use Rattle.paper.specs.declared.Run.{Run}
 use Rattle.paper.specs.Words.{duty, run, Table, dutyAt, runAt}
 use Rattle.paper.specs.Bytes.{Width, headBytes, dutyBytes, runBytes, endBytes, encode, headLength, dutyLength, runLength, endLength, dutyPlace, runPlace, stands, ticksIn, enginesIn, dutiesIn, dutyIn, runIn, tableIn}
-use Rattle.paper.proofs.Bytes.{length-encode, head-stands, duty-stands, run-stands}
+use Rattle.paper.proofs.Bytes.{head-stands, duty-stands, run-stands}
 
 -- a record that stands somewhere is not cut short and is of its kind
 pub stands-there : {b : List ℕ} {at : ℕ} (kind size : ℕ) (body : List ℕ) → suc (length body) ≡ size → Holds b at (kind ∷ body) → stands b at kind size ≡ true
@@ -58,25 +58,24 @@ module _ (w : Width) (t : Table) (b : List ℕ) (h : Holds b 0 (headBytes w t)) 
   pub head-ticks : HeadFits w t → ticksIn b ≡ t .ticks
   unfolding headBytes
   head-ticks f =
-      holds-num 4 (t .ticks)
-      (holds-right (w .headKind ∷ []) (digits 4 (t .ticks))
+      holds-field (w .headKind ∷ []) 4 (t .ticks) 1
       (holds-left (w .headKind ∷ digits 4 (t .ticks)) (digits 1 (t .engines))
-      (holds-left (w .headKind ∷ digits 4 (t .ticks) ++ digits 1 (t .engines)) (digits (w .dutyField) (length (t .duties))) h))) (f .ticks)
+      (holds-left (w .headKind ∷ digits 4 (t .ticks) ++ digits 1 (t .engines)) (digits (w .dutyField) (length (t .duties))) h)) (omega arith) (f .ticks)
 
   -- the number of engines is read
   pub head-engines : HeadFits w t → enginesIn b ≡ t .engines
-  unfolding headBytes digits
+  unfolding headBytes
   head-engines f =
-      holds-num 1 (t .engines)
-      (holds-right (w .headKind ∷ digits 4 (t .ticks)) (digits 1 (t .engines))
-      (holds-left (w .headKind ∷ digits 4 (t .ticks) ++ digits 1 (t .engines)) (digits (w .dutyField) (length (t .duties))) h)) (f .engines)
+      holds-field (w .headKind ∷ digits 4 (t .ticks)) 1 (t .engines) 5
+      (holds-left (w .headKind ∷ digits 4 (t .ticks) ++ digits 1 (t .engines)) (digits (w .dutyField) (length (t .duties))) h)
+      (simp length-digits) (f .engines)
 
   -- the number of duties is read
   pub head-duties : HeadFits w t → dutiesIn w b ≡ length (t .duties)
-  unfolding headBytes digits
+  unfolding headBytes
   head-duties f =
-      holds-num (w .dutyField) (length (t .duties))
-      (holds-right (w .headKind ∷ digits 4 (t .ticks) ++ digits 1 (t .engines)) (digits (w .dutyField) (length (t .duties))) h) (f .duties)
+      holds-field (w .headKind ∷ digits 4 (t .ticks) ++ digits 1 (t .engines)) (w .dutyField) (length (t .duties)) 6 h
+      (simp (length-append, length-digits)) (f .duties)
 
 -- a duty's record is of its kind
 pub duty-kind : (x : Duty) (b : List ℕ) (at : ℕ) → Holds b at (dutyBytes x) → stands b at 2 dutyLength ≡ true
@@ -88,8 +87,8 @@ pub duty-read : (x : Duty) (b : List ℕ) (at : ℕ) → Holds b at (dutyBytes x
 unfolding dutyBytes dutyIn
 duty-read x b at h f =
     rw (
-      holds-num 4 (x .service) (holds-right (2 ∷ []) (digits 4 (x .service)) (holds-left (2 ∷ digits 4 (x .service)) (digits 4 (x .period)) h)) (f .service),
-      holds-num 4 (x .period) (holds-at (at + length (2 ∷ digits 4 (x .service))) (at + 5) (simp length-digits) (holds-right (2 ∷ digits 4 (x .service)) (digits 4 (x .period)) h)) (f .period),
+      holds-field (2 ∷ []) 4 (x .service) (at + 1) (holds-left (2 ∷ digits 4 (x .service)) (digits 4 (x .period)) h) (omega arith) (f .service),
+      holds-field (2 ∷ digits 4 (x .service)) 4 (x .period) (at + 5) h (simp length-digits) (f .period),
     )
 
 -- a run's record is of its kind
@@ -110,10 +109,10 @@ run-read w x b at h f =
     let to-first = holds-left (a ++ c ++ d) e h in
     let to-duty = holds-left (a ++ c) d to-first in
     rw (
-      holds-num 1 (x .row .0) (holds-right (w .runKind ∷ []) (digits 1 (x .row .0)) (holds-left a c to-duty)) (f .row),
-      holds-num (w .dutyField) (x .duty) (holds-at (at + length a) (at + 2) (simp length-digits) (holds-right a c to-duty)) (f .duty),
-      holds-num 4 (x .first) (holds-at (at + length (a ++ c)) (at + 2 + w .dutyField) (simp (length-append, length-digits) (omega arith)) (holds-right (a ++ c) d to-first)) (f .first),
-      holds-num 4 (x .length) (holds-at (at + length (a ++ c ++ d)) (at + 6 + w .dutyField) (simp (length-append, length-digits) (omega arith)) (holds-right (a ++ c ++ d) e h)) (f .length),
+      holds-field (w .runKind ∷ []) 1 (x .row .0) (at + 1) (holds-left a c to-duty) (omega arith) (f .row),
+      holds-field a (w .dutyField) (x .duty) (at + 2) to-duty (simp length-digits) (f .duty),
+      holds-field (a ++ c) 4 (x .first) (at + 2 + w .dutyField) to-first (simp (length-append, length-digits) (omega arith)) (f .first),
+      holds-field (a ++ c ++ d) 4 (x .length) (at + 6 + w .dutyField) h (simp (length-append, length-digits) (omega arith)) (f .length),
     )
 
 -- the end record is of its kind
@@ -124,7 +123,7 @@ end-kind n b at h = stands-there 4 endLength (digits 2 n) (simp length-digits) h
 -- and reads as the number of runs
 pub end-read : (n : ℕ) (b : List ℕ) (at : ℕ) → Holds b at (endBytes n) → n < 256 ^ 2 → numAt 2 b (at + 1) ≡ n
 unfolding endBytes
-end-read n b at h f = holds-num 2 n (holds-right (4 ∷ []) (digits 2 n) h) f
+end-read n b at h f = holds-field (4 ∷ []) 2 n (at + 1) h (omega arith) f
 
 -- ---- the table
 
@@ -135,29 +134,31 @@ pub record InFields (w : Width) (t : Table) : Type 0 where
   pub each-run : (k : ℕ) → k < length (t .runs) → RunFits w (runAt (t .runs) k)
   pub runs : length (t .runs) < 256 ^ 2
 
+-- the head of a table's bytes has the table's numbers
+module _ (w : Width) (t : Table) (f : InFields w t) where
+  pub ticks-read : ticksIn (encode w t) ≡ t .ticks
+  ticks-read = head-ticks w t (encode w t) (head-stands w t) (f .head)
+
+  pub engines-read : enginesIn (encode w t) ≡ t .engines
+  engines-read = head-engines w t (encode w t) (head-stands w t) (f .head)
+
+  pub duties-read : dutiesIn w (encode w t) ≡ length (t .duties)
+  duties-read = head-duties w t (encode w t) (head-stands w t) (f .head)
+
 -- the table in a table's bytes is that table
 pub table-read : (w : Width) (t : Table) → InFields w t → tableIn w (encode w t) (length (t .duties)) (length (t .runs)) ≡ t
 unfolding tableIn
 table-read w t f =
-    rw (head-ticks w t (encode w t) (head-stands w t) (f .head), head-engines w t (encode w t) (head-stands w t) (f .head), duties-read, runs-read)
+    rw (ticks-read w t f, engines-read w t f, all-duties, all-runs)
   where
-    duties-read : tab (length (t .duties)) (λ d. dutyIn (encode w t) (dutyPlace w d)) ≡ t .duties
-    duties-read =
+    all-duties : tab (length (t .duties)) (λ d. dutyIn (encode w t) (dutyPlace w d)) ≡ t .duties
+    all-duties =
         tab-ext (length (t .duties)) (λ d. dutyIn (encode w t) (dutyPlace w d)) (dutyAt (t .duties))
         (λ d h. duty-read (dutyAt (t .duties) d) (encode w t) (dutyPlace w d) (duty-stands w t d h) (f .each-duty d h))
         ∙ tab-getD (t .duties) (duty 0 0)
 
-    runs-read : tab (length (t .runs)) (λ j. runIn w (encode w t) (runPlace w (length (t .duties)) j)) ≡ t .runs
-    runs-read =
+    all-runs : tab (length (t .runs)) (λ j. runIn w (encode w t) (runPlace w (length (t .duties)) j)) ≡ t .runs
+    all-runs =
         tab-ext (length (t .runs)) (λ j. runIn w (encode w t) (runPlace w (length (t .duties)) j)) (runAt (t .runs))
         (λ k h. run-read w (runAt (t .runs) k) (encode w t) (runPlace w (length (t .duties)) k) (run-stands w t k h) (f .each-run k h))
         ∙ tab-getD (t .runs) (run 0 0 0 0)
-
--- so two tables with the same bytes are the same
-pub encode-one : (w : Width) (t t′ : Table) → InFields w t → InFields w t′ → encode w t ≡ encode w t′ → t ≡ t′
-encode-one w t t′ f f′ e =
-    let n : length (t .duties) ≡ length (t′ .duties) =
-    sym (head-duties w t (encode w t) (head-stands w t) (f .head)) ∙ ap (dutiesIn w) e ∙ head-duties w t′ (encode w t′) (head-stands w t′) (f′ .head) in
-    let k : length (t .runs) ≡ length (t′ .runs) =
-    eq-of-mul-eq-mul-left (runLength w) (omega arith) _ _ (omega (arith, length-encode w t, length-encode w t′, ap (λ (b : List ℕ). length b) e)) in
-    sym (table-read w t f) ∙ rw (e, n, k) (table-read w t′ f′)

@@ -8,13 +8,12 @@ use mathlib.Core.List.{List, [], _∷_}
 use native.Mathlib.Nat.{not-suc-le-zero, le-of-suc-le-suc}
 use native.Mathlib.Numerals.{add-one}
 use native.Mathlib.Omega.{arith}
-use lib.Dec.{leb, ltb, eqb, leb·suc-suc}
+use lib.Dec.{leb, ltb, eqb}
 use lib.ListN.{length, drop, drop-of-length-le}
 use lib.Seq.{drop-cons}
 use borrow.Author.Tests.{eqb-true, leb-true, ltb-true, eq-eqb, le-leb, lt-ltb}
-use Rattle.laws.specs.Choice.{pick}
 use Rattle.laws.specs.Search.{first}
-use Rattle.laws.proofs.Cases.{by-cases, lt-or-le, not-both, both-true, eqb-sym}
+use Rattle.laws.proofs.Cases.{by-cases, by-order, not-both, and-left, and-right, eqb-sym}
 use Rattle.paper.specs.declared.Row.{Row}
 use Rattle.paper.specs.declared.Run.{Run}
 use Rattle.paper.specs.declared.Held.{Held}
@@ -25,13 +24,14 @@ use Rattle.paper.specs.Statements.{Has, Apart}
 -- a run covers a unit of a row where it is of the row and has the unit
 pub covers-row : (x : Run) (r : Row) (u : ℕ) → covers x r u ≡ true → x .row .0 ≡ r .0
 unfolding covers
-covers-row x r u p = eqb-true (x .row .0) (r .0) (both-true (eqb (x .row .0) (r .0)) (leb (x .first) u) (both-true _ (ltb u (stop x)) p .0) .0)
+covers-row x r u p = eqb-true (x .row .0) (r .0) (and-left (eqb (x .row .0) (r .0)) (leb (x .first) u) (and-left _ (ltb u (stop x)) p))
 
 pub covers-has : (x : Run) (r : Row) (u : ℕ) → covers x r u ≡ true → Has x u
 unfolding covers
 covers-has x r u p =
-    let q = both-true (eqb (x .row .0) (r .0) && leb (x .first) u) (ltb u (stop x)) p in
-    (leb-true (x .first) u (both-true (eqb (x .row .0) (r .0)) (leb (x .first) u) (q .0) .1), ltb-true u (stop x) (q .1))
+    let from = eqb (x .row .0) (r .0) && leb (x .first) u in
+    let below = ltb u (stop x) in
+    (leb-true (x .first) u (and-right (eqb (x .row .0) (r .0)) (leb (x .first) u) (and-left from below p)), ltb-true u (stop x) (and-right from below p))
 
 pub has-covers : (x : Run) (r : Row) (u : ℕ) → x .row .0 ≡ r .0 → Has x u → covers x r u ≡ true
 unfolding covers
@@ -50,6 +50,11 @@ held-no x xs r u p = rw p
 pub record Covering (xs : List Run) (r : Row) (u k : ℕ) : Type 0 where
   pub below : k < length xs
   pub covering : covers (runAt xs k) r u ≡ true
+
+-- another unit that the run has is covered too
+pub covering-other : {xs : List Run} {r : Row} {u k : ℕ} (v : ℕ) → Covering xs r u k → Has (runAt xs k) v → Covering xs r v k
+covering-other {xs} {r} {u} {k} v c h =
+    record { below = c .below; covering = has-covers (runAt xs k) r v (covers-row (runAt xs k) r u (c .covering)) h }
 
 -- a unit is idle, and then no run covers it, or a run covers it and its duty holds it
 pub held-cases : {P : Type 0} (xs : List Run) (r : Row) (u : ℕ)
@@ -75,7 +80,7 @@ RowsApart xs = (j k : ℕ) → j < k → k < length xs → runAt xs j .row .0 �
 -- then a unit has one run at most
 pub covering-one : (xs : List Run) (r : Row) (u : ℕ) → RowsApart xs → (j k : ℕ) → Covering xs r u j → Covering xs r u k → j ≡ k
 covering-one xs r u a j k c d =
-    lt-or-le j k (λ l. absurd (apart j k l c d)) (λ l. lt-or-le k j (λ m. absurd (apart k j m d c)) (λ m. omega arith))
+    by-order j k (λ l. absurd (apart j k l c d)) (λ l. absurd (apart k j l d c)) (λ e. e)
   where
     apart : (j k : ℕ) → j < k → Covering xs r u j → Covering xs r u k → ⊥
     apart j k l c d =
@@ -118,23 +123,9 @@ pub held-from-end : (xs : List Run) (r : Row) (u k : ℕ) → length xs ≤ k �
 unfolding heldIn
 held-from-end xs r u k h = rw (drop-of-length-le xs h)
 
--- ---- the run that is found, by its index
-
--- "stops at the first that does": the duty of the least run that covers the unit
-pub held-by-search : (xs : List Run) (r : Row) (u : ℕ) → heldIn xs r u ≡ pick (ltb (first (λ j. covers (runAt xs j) r u) (length xs)) (length xs)) (By (runAt xs (first (λ j. covers (runAt xs j) r u) (length xs)) .duty)) Idle
-unfolding heldIn first
-held-by-search [] r u = refl
-held-by-search (x ∷ xs) r u =
-    by-cases (covers x r u) (λ h. rw (h, first, lt-ltb 0 (suc (length xs)) (omega arith)))
-    (λ h. rw (h, first, leb·suc-suc (suc (first (λ j. covers (runAt xs j) r u) (length xs))) (length xs)) (held-by-search xs r u))
-
--- where no run covers it the unit is idle, and the converse
+-- where no run covers it the unit is idle
 pub held-idle : (xs : List Run) (r : Row) (u : ℕ) → ((k : ℕ) → k < length xs → covers (runAt xs k) r u ≡ false) → heldIn xs r u ≡ Idle
 held-idle xs r u n = held-cases xs r u (λ e h. e) (λ k c e. not-both (c .covering) (n k (c .below)))
-
-pub idle-clear : (xs : List Run) (r : Row) (u : ℕ) → heldIn xs r u ≡ Idle → (k : ℕ) → k < length xs → covers (runAt xs k) r u ≡ false
-idle-clear xs r u h k l =
-    by-cases (covers (runAt xs k) r u) (λ p. held-cases xs r u (λ e n. absurd (n k (record { below = l; covering = p }))) (λ j c e. (cc))) (λ p. p)
 
 -- where a duty holds it one of the duty's runs covers it
 pub held-some : (xs : List Run) (r : Row) (u i : ℕ) → heldIn xs r u ≡ By i → (k : ℕ) × Covering xs r u k × (runAt xs k .duty ≡ i)

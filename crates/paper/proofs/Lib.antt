@@ -17,7 +17,6 @@ pub mod Fields
 pub mod Written
 pub mod Passed
 pub mod Read
-pub mod Sa1Accepted
 pub mod CasesHold
 pub mod Whole
 pub mod PlanWhen

@@ -13,13 +13,13 @@ use borrow.Author.Tests.{ltb-true, ltb-false, not-true, not-false}
 use Rattle.laws.specs.Choice.{pick}
 use Rattle.laws.specs.Lists.{same-list}
 use Rattle.laws.proofs.Search.{first-le}
-use Rattle.laws.proofs.Lists.{and-right}
+use Rattle.laws.proofs.Cases.{and-right}
 use Rattle.paper.specs.declared.Engine.{Engine}
 use Rattle.paper.specs.Words.{Table, blockLengthOf}
 use Rattle.paper.specs.Outcome.{Outcome, refused, answer, andThen}
 use Rattle.paper.specs.Bytes.{small, encode, runPlace, endLength, dutyPlace, dutiesIn, headGood, endGood, runGood, badDuty, goodRuns, tableIn, afterRuns, afterHead, parse}
 use Rattle.paper.specs.Builder.{dutiesOf, badSlice, plan, build}
-use Rattle.paper.specs.Answers.{State, ofEngine, ofState, rowsAt, stateAt, mostBlocks, question, start, rowTold, advanced, counted}
+use Rattle.paper.specs.Answers.{State, rowsAt, stateAt, mostBlocks, question, start, rowTold, advanced, counted}
 use Rattle.paper.specs.Schedule.{loads}
 use Rattle.paper.specs.Sa1.{sa1}
 use Rattle.paper.specs.Rules.{fault, judged, readingOf, lowest, overlaps, joins, twice, badSum, badOrder, judgeRuns, judgeTable, accepted}
@@ -27,9 +27,9 @@ use Rattle.paper.specs.Text.{Lines, none, line, linesOf, engineLineGood,
 use Rattle.paper.specs.Statements.{Ranged}
 use Rattle.paper.proofs.Outcomes.{answered, refused-one}
 use Rattle.paper.proofs.Bytes.{length-encode}
-use Rattle.paper.proofs.Passed.{head-told}
+use Rattle.paper.proofs.Passed.{From, head-told}
 use Rattle.paper.proofs.Read.{parse-ranged}
-use Rattle.paper.proofs.PlanWhen.{From, Counts, When, engines-out, lengths-differ, duties-out, period-out, service-out, slice-broken, too-much, planned, plan-when}
+use Rattle.paper.proofs.PlanWhen.{Counts, When, engines-out, lengths-differ, duties-out, period-out, service-out, slice-broken, too-much, planned, plan-when}
 use Rattle.paper.proofs.Planned.{length-duties, planned-ranged, WhenBuilt, not-planned, too-short, written, built-when}
 
 -- ---- refusals with listed numbers
@@ -59,6 +59,10 @@ module _ {A : Type 0} (P : ℕ → Type 0) where
   listed-pick : (b : Bool) (x y : Outcome A) → (b ≡ true → Listed P x) → (b ≡ false → Listed P y) → Listed P (pick b x y)
   listed-pick true x y f g = f refl
   listed-pick false x y f g = g refl
+
+  -- a refusal without a place where a test fails
+  listed-else : (b : Bool) (x : Outcome A) (n : ℕ) → P n → n < 256 → Listed P x → Listed P (pick b x (refused n 0))
+  listed-else b x n l h r = listed-pick b x (refused n 0) (λ p. r) (λ p. listed-refused n 0 l h (omega arith))
 
   -- a fault at one of few places
   listed-fault : (number place count : ℕ) (rest : Outcome A) → P number → number < 256 → count ≤ 4096 → Listed P rest → Listed P (fault number place count rest)
@@ -172,21 +176,11 @@ build-listed m ss ps room n p e = go (built-when m ss ps room (refused n p) .0 e
 after-judge : {A : Type 0} (P : ℕ → Type 0) → ((n : ℕ) → From 10 17 n → P n) → (b : List ℕ) (f : Table → Outcome A) → ((t : Table) → Listed P (f t)) → Listed P (andThen (accepted b) f)
 after-judge P i b f g = listed-then P (accepted b) f (listed-more i (accepted b) (accepted-listed b)) (λ t e. g t)
 
--- 18
-of-engine : {A : Type 0} (P : ℕ → Type 0) → P 18 → (t : Table) (e : Engine) (rest : Outcome A) → Listed P rest → Listed P (ofEngine t e rest)
-of-engine P i t e rest r =
-    listed-pick P (ltb (e .0) (t .engines)) rest (refused 18 0) (λ h. r) (λ h. listed-refused P 18 0 i (omega arith) (omega arith))
-
--- 20
-of-state : {A : Type 0} (P : ℕ → Type 0) → P 20 → (t : Table) (s : State) (rest : Outcome A) → Listed P rest → Listed P (ofState t s rest)
-of-state P i t s rest r =
-    listed-pick P (same-list (s .rows) (rowsAt t (s .block))) rest (refused 20 0) (λ h. r) (λ h. listed-refused P 20 0 i (omega arith) (omega arith))
-
 -- 10 to 18 for the question
 pub question-listed : (b : List ℕ) (e : Engine) (k : ℕ) → Listed (From 10 18) (question b e k)
 unfolding question
 question-listed b e k =
-    after-judge (From 10 18) (λ n l. omega arith) b _ (λ t. of-engine (From 10 18) (omega arith) t e _ (listed-answer (From 10 18) _))
+    after-judge (From 10 18) (λ n l. omega arith) b _ (λ t. listed-else (From 10 18) (ltb (e .0) (t .engines)) _ 18 (omega arith) (omega arith) (listed-answer (From 10 18) _))
 
 -- 10 to 17 for a dispatcher's start
 pub start-listed : (b : List ℕ) (k : ℕ) → Listed (From 10 17) (start b k)
@@ -198,14 +192,15 @@ pub row-listed : (b : List ℕ) (s : State) (e : Engine) → Listed (λ n. From 
 unfolding rowTold
 row-listed b s e =
     let P : ℕ → Type 0 = λ n. From 10 18 n ⊎ (n ≡ 20) in
-    after-judge P (λ n l. inl (omega arith)) b _ (λ t. of-engine P (inl (omega arith)) t e _ (of-state P (inr refl) t s _ (listed-answer P _)))
+    after-judge P (λ n l. inl (omega arith)) b _ (λ t. listed-else P (ltb (e .0) (t .engines)) _ 18 (inl (omega arith)) (omega arith)
+    (listed-else P (same-list (s .rows) (rowsAt t (s .block))) _ 20 (inr refl) (omega arith) (listed-answer P _)))
 
 -- 10 to 17, 20 and 21 for the next state
 pub next-listed : (b : List ℕ) (s : State) → Listed (λ n. From 10 17 n ⊎ From 20 21 n) (advanced b s)
 unfolding advanced
 next-listed b s =
     let P : ℕ → Type 0 = λ n. From 10 17 n ⊎ From 20 21 n in
-    after-judge P (λ n l. inl l) b _ (λ t. of-state P (inr (omega arith)) t s _
+    after-judge P (λ n l. inl l) b _ (λ t. listed-else P (same-list (s .rows) (rowsAt t (s .block))) _ 20 (inr (omega arith)) (omega arith)
     (listed-pick P (eqb (s .block) (2 ^ 64 - 1)) _ _ (λ h. listed-refused P 21 0 (inr (omega arith)) (omega arith) (omega arith)) (λ h. listed-answer P (stateAt t (s .block + 1)))))
 
 -- 10 to 17 and 19 for the count

@@ -5,25 +5,25 @@
 -- the boundary.
 -- Assumes nothing.
 use Prim.Native.Nat.{ℕ, zero, suc, _+_, _-_, _*_, _≤_, _<_}
-use mathlib.Core.Path.{_≡_, refl, sym, ap, _∙_}
-use mathlib.Core.Bool.{Bool, true, not, _&&_}
+use mathlib.Core.Path.{_≡_, refl, ap, _∙_}
+use mathlib.Core.Bool.{Bool, not, _&&_}
 use native.Mathlib.Nat.{zero-mul, suc-mul, add-suc}
 use native.Mathlib.Numerals.{add-one}
 use native.Mathlib.Omega.{arith}
 use lib.Arith.{digits-div, digits-mod}
-use Rattle.laws.specs.Choice.{pick, one-if}
+use Rattle.laws.specs.Choice.{one-if}
 use Rattle.laws.specs.Sum.{sumTo}
 use Rattle.laws.proofs.Cases.{by-cases}
-use Rattle.laws.proofs.Sum.{sum-ext, sum-suc, sum-none, sum-one, sum-first, sum-plus, sum-most, sum-swap, sum-blocks}
+use Rattle.laws.proofs.Sum.{sum-ext, sum-suc, sum-none, sum-one, sum-first, sum-plus, sum-swap, sum-blocks}
 use Rattle.paper.specs.declared.Engine.{Engine}
 use Rattle.paper.specs.declared.Held.{Held}
 use Rattle.paper.specs.declared.Held.the-variants.{Idle, By}
 use Rattle.paper.specs.Words.{row, engine, Table, heldIn, same, busy}
-use Rattle.paper.specs.Rotation.{link, firstOf, nextOf, rowAt}
+use Rattle.paper.specs.Rotation.{link, nextOf, rowAt}
 use Rattle.paper.specs.Schedule.{Schedule, walk, load, loadsIn, loads}
 use Rattle.paper.proofs.Holding.{same-sym}
-use Rattle.paper.proofs.Links.{Closed, link-is, rows-end}
-use Rattle.paper.proofs.Rotation.{next-linked, next-last, next-sum, row-next, row-sum}
+use Rattle.paper.proofs.Links.{Closed, rows-end}
+use Rattle.paper.proofs.Rotation.{next-sum, row-next, row-sum}
 
 -- 1 where a duty is run now that was not run before
 abbrev pub fresh : Held → Held → ℕ
@@ -57,14 +57,14 @@ pub walk-at : (t : Table) (e : Engine) (b u : ℕ) → u < t .ticks → walk t e
 unfolding walk
 walk-at t e b u h = rw (digits-div b {m = t .ticks} {r = u} h, digits-mod b {m = t .ticks} {r = u} h)
 
--- a load at a tick after the first, and at tick 0
-load-suc : (s : Schedule) (e : Engine) (k : ℕ) → one-if (load s e (suc k)) ≡ fresh (s e (suc k)) (s e k)
+-- a load at a tick k that is after j, and at tick 0
+load-after : (s : Schedule) (e : Engine) (k j : ℕ) → k ≡ suc j → one-if (load s e k) ≡ fresh (s e k) (s e j)
 unfolding load
-load-suc s e k = refl
+load-after s e k j p = rw p
 
-load-zero : (s : Schedule) (e : Engine) → one-if (load s e 0) ≡ one-if (busy (s e 0))
+load-zero : (s : Schedule) (e : Engine) (k : ℕ) → k ≡ 0 → one-if (load s e k) ≡ one-if (busy (s e k))
 unfolding load
-load-zero s e = refl
+load-zero s e k p = rw p
 
 -- the loads of engine e at unit u of block b
 abbrev loadAt : Table → ℕ → ℕ → ℕ → ℕ
@@ -74,29 +74,21 @@ loadAt t e b u = one-if (load (walk t) (engine e) (b * t .ticks + u))
 load-inside : (t : Table) (e b u : ℕ) → suc u < t .ticks →
     loadAt t e b (suc u) ≡ fresh (heldIn (t .runs) (rowAt (link t) b (engine e)) (suc u)) (heldIn (t .runs) (rowAt (link t) b (engine e)) u)
 load-inside t e b u h =
-    ap (λ k. one-if (load (walk t) (engine e) k)) (add-suc (b * t .ticks) u)
-    ∙ load-suc (walk t) (engine e) (b * t .ticks + u)
-    ∙ ap (λ k. fresh (walk t (engine e) k) (walk t (engine e) (b * t .ticks + u))) (sym (add-suc (b * t .ticks) u))
+    load-after (walk t) (engine e) (b * t .ticks + suc u) (b * t .ticks + u) (add-suc (b * t .ticks) u)
     ∙ rw (walk-at t (engine e) b (suc u) h, walk-at t (engine e) b u (omega arith))
 
 -- at unit 0 of the first block
 load-opening : (t : Table) (e : ℕ) → 1 ≤ t .ticks → loadAt t e 0 0 ≡ opening t (rowAt (link t) 0 (engine e) .0)
 unfolding opening
 load-opening t e h =
-    let z : 0 * t .ticks + 0 ≡ 0 = omega (arith, zero-mul (t .ticks)) in
-    ap (λ k. one-if (load (walk t) (engine e) k)) z
-    ∙ load-zero (walk t) (engine e)
-    ∙ ap (λ k. one-if (busy (walk t (engine e) k))) (sym z)
+    load-zero (walk t) (engine e) (0 * t .ticks + 0) (omega (arith, zero-mul (t .ticks)))
     ∙ ap (λ g. one-if (busy g)) (walk-at t (engine e) 0 0 h)
 
 -- at unit 0 of a later block they turn on the row before
 load-boundary : (t : Table) (e b : ℕ) → 1 ≤ t .ticks → loadAt t e (suc b) 0 ≡ boundary t (rowAt (link t) b (engine e) .0)
 unfolding boundary
 load-boundary t e b h =
-    let z : suc b * t .ticks + 0 ≡ suc (b * t .ticks + (t .ticks - 1)) = omega (arith, suc-mul b (t .ticks)) in
-    ap (λ k. one-if (load (walk t) (engine e) k)) z
-    ∙ load-suc (walk t) (engine e) (b * t .ticks + (t .ticks - 1))
-    ∙ ap (λ k. fresh (walk t (engine e) k) (walk t (engine e) (b * t .ticks + (t .ticks - 1)))) (sym z)
+    load-after (walk t) (engine e) (suc b * t .ticks + 0) (b * t .ticks + (t .ticks - 1)) (omega (arith, suc-mul b (t .ticks)))
     ∙ rw (walk-at t (engine e) (suc b) 0 h, walk-at t (engine e) b (t .ticks - 1) (omega arith), row-next (link t) b (engine e))
 
 -- the loads of engine e in block b: those at unit 0, and those of its row
@@ -124,49 +116,33 @@ boundary-carries t r =
     let before : Held = heldIn (t .runs) (row r) (t .ticks - 1) in
     ap (λ b. fresh now before + one-if b) (same-sym before now) ∙ fresh-same now before
 
--- a linked row's duty is always carried, and the last row's of a chain where the chain's first row begins with it
-pub carries-is : (t : Table) (r : ℕ)
-    → carries t r ≡ pick (link t r) true (same (heldIn (t .runs) (row r) (t .ticks - 1)) (heldIn (t .runs) (row (firstOf (link t) r)) 0))
-unfolding carries
-carries-is t r =
-    by-cases (link t r)
-    (λ p. rw (p, next-linked (link t) r p, ← add-one r) (sym (link-is t r) ∙ p))
-    (λ p. rw (p, next-last (link t) r p))
-
--- at most each row's is
-pub carried-most : (t : Table) → carried t ≤ t .engines
-unfolding carried
-carried-most t =
-    omega (arith, sum-most (t .engines) 1 (λ r. one-if (carries t r)) (λ r h. by-cases (carries t r) (λ p. rw p (omega arith)) (λ p. rw p (omega arith))))
-
 module _ (t : Table) (ok : Closed t) where
   -- the loads of block b
   blockLoads : ℕ → ℕ
   blockLoads b = sumTo (t .ticks) (λ u. sumTo (t .engines) (λ e. loadAt t e b u))
 
-  -- .. engine by engine: at unit 0, and of all rows
-  block-loads : (b : ℕ) → blockLoads b ≡ sumTo (t .engines) (λ e. loadAt t e b 0) + sumTo (t .engines) (inside t)
+  -- .. engine by engine: where the loads at unit 0 are those that f tells of the engines' rows in block a, they are f's of all rows, and those
+  -- inside all rows
+  block-loads :
+      (b a : ℕ) (f : ℕ → ℕ) → ((e : ℕ) → loadAt t e b 0 ≡ f (rowAt (link t) a (engine e) .0))
+      → blockLoads b ≡ sumTo (t .engines) f + sumTo (t .engines) (inside t)
   unfolding blockLoads
-  block-loads b =
+  block-loads b a f opens =
       sum-swap (t .ticks) (t .engines) (λ u e. loadAt t e b u)
       ∙ sum-ext (t .engines) (λ e. sumTo (t .ticks) (loadAt t e b)) _ (λ e h. engine-loads t e b (ok .some-tick))
       ∙ sum-plus (t .engines) (λ e. loadAt t e b 0) (λ e. inside t (rowAt (link t) b (engine e) .0))
-      ∙ ap (λ n. sumTo (t .engines) (λ e. loadAt t e b 0) + n) (row-sum (link t) (t .engines) (rows-end t ok) b (inside t))
+      ∙ ap (λ n. n + sumTo (t .engines) (λ e. inside t (rowAt (link t) b (engine e) .0)))
+      (sum-ext (t .engines) (λ e. loadAt t e b 0) _ (λ e h. opens e) ∙ row-sum (link t) (t .engines) (rows-end t ok) a f)
+      ∙ ap (λ n. sumTo (t .engines) f + n) (row-sum (link t) (t .engines) (rows-end t ok) b (inside t))
 
   -- the first block
   block-first : blockLoads 0 ≡ sumTo (t .engines) (opening t) + sumTo (t .engines) (inside t)
-  block-first =
-      block-loads 0
-      ∙ ap (λ n. n + sumTo (t .engines) (inside t))
-      (sum-ext (t .engines) (λ e. loadAt t e 0 0) _ (λ e h. load-opening t e (ok .some-tick)) ∙ row-sum (link t) (t .engines) (rows-end t ok) 0 (opening t))
+  block-first = block-loads 0 0 (opening t) (λ e. load-opening t e (ok .some-tick))
 
   -- every later block
   block-later : (b : ℕ) → blockLoads (suc b) ≡ later t
   unfolding later
-  block-later b =
-      block-loads (suc b)
-      ∙ ap (λ n. n + sumTo (t .engines) (inside t))
-      (sum-ext (t .engines) (λ e. loadAt t e (suc b) 0) _ (λ e h. load-boundary t e b (ok .some-tick)) ∙ row-sum (link t) (t .engines) (rows-end t ok) b (boundary t))
+  block-later b = block-loads (suc b) b (boundary t) (λ e. load-boundary t e b (ok .some-tick))
 
   -- the count by blocks
   loads-blocks : (n : ℕ) → loads t n ≡ sumTo n blockLoads
@@ -208,8 +184,3 @@ module _ (t : Table) (ok : Closed t) where
         sum-ext (t .engines) (λ r. boundary t r + one-if (carries t r)) (λ r. opening t (nextOf (link t) r)) (λ r h. boundary-carries t r),
         next-sum (link t) (t .engines) (rows-end t ok) (opening t),
       )
-
-  -- the count as code makes it
-  pub loads-carried : (n : ℕ) → loads t (n + 1) ≡ loads t 1 + n * (loads t 1 - carried t)
-  loads-carried n =
-      loads-closed n ∙ ap (λ x. loads t 1 + n * x) (omega (arith, later-carried))

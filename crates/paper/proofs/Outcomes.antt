@@ -1,9 +1,12 @@
--- What an equation between two outcomes tells: an answer is no refusal, and each determines what it carries.
+-- What an equation between two outcomes tells: an answer is no refusal, each determines what it carries, and what one call after another, or one
+-- test after another, came to tells what the first came to.
 -- Assumes nothing.
 use Prim.Native.Nat.{ℕ}
-use mathlib.Core.Path.{_≡_}
+use mathlib.Core.Path.{_≡_, refl, sym}
+use mathlib.Core.Bool.{Bool, true, false}
 use native.Mathlib.Omega.{arith}
-use Rattle.paper.specs.Outcome.{Outcome, refused, answer}
+use Rattle.laws.specs.Choice.{pick}
+use Rattle.paper.specs.Outcome.{Outcome, refused, answer, andThen}
 
 -- an answer is no refusal
 pub answered : {A P : Type 0} (a : A) (n p : ℕ) → answer a ≡ refused n p → P
@@ -16,3 +19,18 @@ answer-one x y e = cc
 -- refusals with the same number and place
 pub refused-one : {A : Type 0} (n p k q : ℕ) → _≡_ {A = Outcome A} (refused n p) (refused k q) → (n ≡ k) × (p ≡ q)
 refused-one n p k q e = (cc, cc)
+
+-- a refusal stays one where answers only become other answers
+pub then-refused : {A B : Type 0} (o : Outcome A) (f : A → B) (n p : ℕ) → andThen o (λ a. answer (f a)) ≡ refused n p → o ≡ refused n p
+then-refused (refused k q) f n p e = cc
+then-refused (answer a) f n p e = answered (f a) n p e
+
+-- what is answered in the end was made of an answer
+pub then-answer : {A B : Type 0} (o : Outcome A) (f : A → Outcome B) (b : B) → andThen o f ≡ answer b → (a : A) × (o ≡ answer a) × (f a ≡ answer b)
+then-answer (refused n p) f b e = answered b n p (sym e)
+then-answer (answer a) f b e = (a, refl, e)
+
+-- an answer after a test for a fault: the test failed, and what follows gave the answer
+pub past : {A : Type 0} (b : Bool) (n p : ℕ) (rest : Outcome A) (a : A) → pick b (refused n p) rest ≡ answer a → (b ≡ false) × (rest ≡ answer a)
+past true n p rest a h = answered a n p (sym h)
+past false n p rest a h = (refl, h)

@@ -1,22 +1,31 @@
 -- What the tests of a table's records say, each taken apart into the statements that it is made of.
 -- Assumes nothing.
-use Prim.Native.Nat.{ℕ, _+_, _≤_}
+use Prim.Native.Nat.{ℕ, _+_, _≤_, _<_}
 use mathlib.Core.Path.{_≡_}
 use mathlib.Core.Bool.{true, _&&_}
 use mathlib.Core.List.{List}
 use lib.Dec.{leb, ltb, eqb}
 use lib.ListN.{length, getD}
-use borrow.Author.Tests.{leb-true, ltb-true, eqb-true}
+use borrow.Author.Tests.{le-leb, leb-true, ltb-true, eqb-true}
 use Rattle.laws.specs.Digits.{numAt}
-use Rattle.laws.proofs.Lists.{and-left, and-right}
-use Rattle.paper.specs.Words.{duty, stop}
-use Rattle.paper.specs.Bytes.{Width, mostTicks, within, headLength, dutyLength, runLength, endLength, stands, ticksIn, enginesIn, dutiesIn, dutyIn, runIn, headGood, dutyGood, runGood, endGood}
+use Rattle.laws.proofs.Cases.{and-left, and-right, and-both}
+use Rattle.laws.proofs.Decides.{Decides}
+use Rattle.paper.specs.declared.Duty.{Duty}
+use Rattle.paper.specs.Words.{dutyAt, stop}
+use Rattle.paper.specs.Bytes.{Width, mostTicks, within, headLength, dutyLength, runLength, endLength, stands, ticksIn, enginesIn, dutiesIn, dutyIn, dutyRanged, runIn, headGood, dutyGood, runGood, endGood}
 use Rattle.paper.specs.Statements.{DutyRanged, RunRanged}
 
--- a number that passed is from low to high
-pub within-told : (low high v : ℕ) → within low high v ≡ true → (low ≤ v) × (v ≤ high)
+-- the number is from low to high
+abbrev pub From : (low high v : ℕ) → Type 0
+From low high v = (low ≤ v) × (v ≤ high)
+
+-- a number passes exactly where it is
+pub within-told : (low high v : ℕ) → within low high v ≡ true → From low high v
 within-told low high v h =
     (leb-true low v (and-left (leb low v) (leb v high) h), leb-true v high (and-right (leb low v) (leb v high) h))
+
+pub within-decides : (low high v : ℕ) → Decides (within low high v) (From low high v)
+within-decides low high v = (within-told low high v, (λ r. and-both (leb low v) (leb v high) (le-leb low v (r .0)) (le-leb v high (r .1))))
 
 -- a record of its kind, not cut short
 pub record Standing (b : List ℕ) (at kind size : ℕ) : Type 0 where
@@ -35,9 +44,9 @@ standing b at kind size h =
 -- the head's numbers are in range
 pub record HeadTold (w : Width) (b : List ℕ) : Type 0 where
   pub here : Standing b 0 (w .headKind) (headLength w)
-  pub ticks : (1 ≤ ticksIn b) × (ticksIn b ≤ mostTicks)
-  pub engines : (1 ≤ enginesIn b) × (enginesIn b ≤ w .mostEngines)
-  pub duties : (1 ≤ dutiesIn w b) × (dutiesIn w b ≤ w .mostDuties)
+  pub ticks : From 1 mostTicks (ticksIn b)
+  pub engines : From 1 (w .mostEngines) (enginesIn b)
+  pub duties : From 1 (w .mostDuties) (dutiesIn w b)
 
 -- a head that passed
 pub head-told : (w : Width) (b : List ℕ) → headGood w b ≡ true → HeadTold w b
@@ -56,20 +65,35 @@ head-told w b h =
       duties = within-told 1 (w .mostDuties) (dutiesIn w b) (and-right (s && x && y) z h);
     }
 
+-- a duty passes exactly where it is in range
+pub duty-ranged : (x : Duty) → dutyRanged x ≡ true → DutyRanged x
+duty-ranged x h =
+    let p = within 1 mostTicks (x .period) in
+    let c = within 1 (x .period) (x .service) in
+    let period = within-told 1 mostTicks (x .period) (and-left p c h) in
+    let service = within-told 1 (x .period) (x .service) (and-right p c h) in
+    record { period-least = period .0; period-most = period .1; service-least = service .0; service-most = service .1 }
+
+pub duty-decides : (x : Duty) → Decides (dutyRanged x) (DutyRanged x)
+duty-decides x = (
+  duty-ranged x,
+  (λ r. and-both _ _ (within-decides 1 mostTicks (x .period) .1 (r .period-least, r .period-most)) (within-decides 1 (x .period) (x .service) .1 (r .service-least, r .service-most))),
+)
+
+-- what 4 and 5 ask of duty i, and of all duties
+abbrev pub InRange : List Duty → ℕ → Type 0
+InRange ds i = DutyRanged (dutyAt ds i)
+
+abbrev pub Ranges : List Duty → Type 0
+Ranges ds = (i : ℕ) → i < length ds → InRange ds i
+
 -- a duty's record that passed
 pub duty-told : (b : List ℕ) (at : ℕ) → dutyGood b at ≡ true → Standing b at 2 dutyLength × DutyRanged (dutyIn b at)
 unfolding dutyGood
 duty-told b at h =
     let s = stands b at 2 dutyLength in
-    let x = dutyIn b at in
-    let p = within 1 mostTicks (x .period) in
-    let c = within 1 (x .period) (x .service) in
-    let pc = and-right s (p && c) h in
-    let period = within-told 1 mostTicks (x .period) (and-left p c pc) in
-    let service = within-told 1 (x .period) (x .service) (and-right p c pc) in (
-      standing b at 2 dutyLength (and-left s (p && c) h),
-      record { period-least = period .0; period-most = period .1; service-least = service .0; service-most = service .1 },
-    )
+    let r = dutyRanged (dutyIn b at) in
+    (standing b at 2 dutyLength (and-left s r h), duty-ranged (dutyIn b at) (and-right s r h))
 
 -- a run's record that passed
 pub run-told : (w : Width) (b : List ℕ) (at : ℕ) → runGood w b at ≡ true

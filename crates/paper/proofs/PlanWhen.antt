@@ -1,54 +1,34 @@
 -- When the builder plans, and when it refuses, with which number and place. Each of its tests decides one of the document's conditions,
 -- and it goes down the tests in order, so each outcome comes about exactly where the earlier conditions are clear and its own holds.
 -- Assumes nothing.
-use Prim.Native.Nat.{ℕ, _*_, _≤_, _<_, _∣_}
+use Prim.Native.Nat.{ℕ, _*_, _≤_, _<_}
 use mathlib.Core.Path.{_≡_, sym, _∙_}
 use mathlib.Core.List.{List}
 use mathlib.Core.Logic.{_↔_}
-use lib.Dec.{leb, ltb, eqb}
+use lib.Dec.{ltb, eqb}
 use lib.ListN.{length}
-use borrow.Author.Tests.{lt-ltb, le-ltb, le-leb, ltb-true, ltb-false, eqb-true, eq-eqb, eqb-false, ne-eqb}
+use borrow.Author.Tests.{lt-ltb, le-ltb, ltb-true, ltb-false, eqb-true, eq-eqb, eqb-false, ne-eqb}
 use Rattle.laws.specs.Choice.{pick}
 use Rattle.laws.specs.Lists.{sumOf}
-use Rattle.laws.proofs.Cases.{by-cases, both-true}
-use Rattle.laws.proofs.Decides.{Decides, Not, Lowest, fails, failed, lowest-found, found-lowest, none-found, found-none}
-use Rattle.laws.proofs.Lists.{and-both}
+use Rattle.laws.proofs.Cases.{by-cases}
+use Rattle.laws.proofs.Decides.{Decides, Not, Lowest, fails, failed, lowest-found, found-lowest, none-found}
 use Rattle.paper.specs.declared.Duty.{Duty}
 use Rattle.paper.specs.Words.{dutyAt, blockLengthOf, whole, Table}
 use Rattle.paper.specs.Sa1.{slices, sa1}
 use Rattle.paper.specs.Outcome.{Outcome, refused, answer}
 use Rattle.paper.specs.Bytes.{small, mostTicks, within, dutyRanged}
 use Rattle.paper.specs.Builder.{dutiesOf, badRange, badSlice, planAt, planDuties, plan}
-use Rattle.paper.specs.Statements.{DutyRanged}
-use Rattle.paper.proofs.Rules.{whole-divides, divides-whole}
-use Rattle.paper.proofs.Passed.{within-told}
+use Rattle.paper.proofs.Rules.{Whole, Wholes, whole-decides}
+use Rattle.paper.proofs.Accepted.{slices-met}
+use Rattle.paper.proofs.Passed.{From, InRange, Ranges, within-told, within-decides, duty-decides}
 
 -- ---- the conditions
-
--- the number is from low to high
-abbrev pub From : (low high v : ℕ) → Type 0
-From low high v = (low ≤ v) × (v ≤ high)
 
 -- none of 1 to 3
 pub record Counts (m : ℕ) (ss ps : List ℕ) : Type 0 where
   pub engines : From 1 (small .mostEngines) m
   pub lengths : length ss ≡ length ps
   pub duties : From 1 (small .mostDuties) (length ss)
-
--- what 4 and 5 ask of duty i, and what 6 asks
-abbrev pub InRange : List Duty → ℕ → Type 0
-InRange ds i = DutyRanged (dutyAt ds i)
-
-abbrev pub Whole : ℕ → List Duty → ℕ → Type 0
-Whole t ds i = dutyAt ds i .period ∣ t * dutyAt ds i .service
-
--- none of 4 and 5
-abbrev pub Ranges : List Duty → Type 0
-Ranges ds = (i : ℕ) → i < length ds → InRange ds i
-
--- nor of 6
-abbrev pub Wholes : ℕ → List Duty → Type 0
-Wholes t ds = (i : ℕ) → i < length ds → Whole t ds i
 
 -- none of 1 to 6, and the slices are no more than the engines have units
 pub record Fitting (m : ℕ) (ss ps : List ℕ) : Type 0 where
@@ -84,26 +64,6 @@ pub data When (m : ℕ) (ss ps : List ℕ) (o : Outcome Table) : Type 0 where
   -- else SA1's table
   planned : o ≡ answer (sa1 (blockLengthOf (dutiesOf ss ps)) m (dutiesOf ss ps)) → Fitting m ss ps → When m ss ps o
 
--- ---- the tests decide them
-
--- a number's range
-within-decides : (low high v : ℕ) → Decides (within low high v) (From low high v)
-within-decides low high v = (within-told low high v, (λ r. and-both (leb low v) (leb v high) (le-leb low v (r .0)) (le-leb v high (r .1))))
-
--- a duty's ranges
-duty-decides : (x : Duty) → Decides (dutyRanged x) (DutyRanged x)
-duty-decides x = (
-  (λ h. let p = both-true (within 1 mostTicks (x .period)) (within 1 (x .period) (x .service)) h in
-      let d = within-told 1 mostTicks (x .period) (p .0) in
-      let c = within-told 1 (x .period) (x .service) (p .1) in
-      record { period-least = d .0; period-most = d .1; service-least = c .0; service-most = c .1 }),
-  (λ r. and-both _ _ (within-decides 1 mostTicks (x .period) .1 (r .period-least, r .period-most)) (within-decides 1 (x .period) (x .service) .1 (r .service-least, r .service-most))),
-)
-
--- a whole slice
-whole-decides : (t : ℕ) (x : Duty) → Decides (whole t x) (x .period ∣ t * x .service)
-whole-decides t x = (whole-divides t x, divides-whole t x)
-
 -- ---- one outcome for one condition
 
 module _ (m : ℕ) (ss ps : List ℕ) where
@@ -132,9 +92,9 @@ module _ (m : ℕ) (ss ps : List ℕ) where
   unfolding planAt badSlice
   after-ranges o c r q =
       by-cases (ltb (badSlice t ds) (length ds))
-      (λ h. slice-broken (badSlice t ds) (q ∙ rw h) c r (lowest-found (λ d. whole t (dutyAt ds d)) (Whole t ds) slice-decides (length ds) h))
+      (λ h. slice-broken (badSlice t ds) (q ∙ rw h) c r (lowest-found slice-decides (length ds) h))
       (λ h.
-      let w = none-found (λ d. whole t (dutyAt ds d)) (Whole t ds) slice-decides (length ds) h in
+      let w = slices-met t ds .0 h in
       by-cases (ltb (m * t) (sumOf (slices t ds)))
       (λ k. too-much (q ∙ rw (h, k)) c r w (ltb-true (m * t) (sumOf (slices t ds)) k))
       (λ k. planned (q ∙ rw (h, k)) (record { counts = c; ranges = r; wholes = w; fit = ltb-false (m * t) (sumOf (slices t ds)) k })))
@@ -145,12 +105,12 @@ module _ (m : ℕ) (ss ps : List ℕ) where
   after-counts o c q =
       by-cases (ltb (badRange ds) (length ds))
       (λ h.
-      let l = lowest-found (λ d. dutyRanged (dutyAt ds d)) (InRange ds) range-decides (length ds) h in
+      let l = lowest-found range-decides (length ds) h in
       let p = dutyAt ds (badRange ds) .period in
       by-cases (within 1 mostTicks p)
       (λ k. service-out (badRange ds) (q ∙ rw (h, k)) c l (within-told 1 mostTicks p k))
       (λ k. period-out (badRange ds) (q ∙ rw (h, k)) c l (fails (within 1 mostTicks p) (within-decides 1 mostTicks p) k)))
-      (λ h. after-ranges o c (none-found (λ d. dutyRanged (dutyAt ds d)) (InRange ds) range-decides (length ds) h) (q ∙ rw h))
+      (λ h. after-ranges o c (none-found range-decides (length ds) .0 h) (q ∙ rw h))
 
   -- every outcome has its condition, ..
   plan-tells : (o : Outcome Table) → plan m ss ps ≡ o → When m ss ps o
@@ -172,21 +132,21 @@ module _ (m : ℕ) (ss ps : List ℕ) where
 
   past-ranges : Counts m ss ps → Ranges ds → plan m ss ps ≡ planAt t m ds
   unfolding planDuties badRange
-  past-ranges c r = past-counts c ∙ rw (found-none (λ d. dutyRanged (dutyAt ds d)) (InRange ds) range-decides (length ds) r)
+  past-ranges c r = past-counts c ∙ rw (none-found range-decides (length ds) .1 r)
 
   past-slices : Counts m ss ps → Ranges ds → Wholes t ds → plan m ss ps ≡ pick (ltb (m * t) (sumOf (slices t ds))) (refused 7 0) (answer (sa1 t m ds))
   unfolding planAt badSlice
-  past-slices c r w = past-ranges c r ∙ rw (found-none (λ d. whole t (dutyAt ds d)) (Whole t ds) slice-decides (length ds) w)
+  past-slices c r w = past-ranges c r ∙ rw (slices-met t ds .1 w)
 
   -- a duty out of range is met first
   bad-range : (d : ℕ) → Lowest (InRange ds) (length ds) d → planDuties m ds ≡ pick (within 1 mostTicks (dutyAt ds d .period)) (refused 5 d) (refused 4 d)
   unfolding planDuties badRange
-  bad-range d l = rw (found-lowest (λ d. dutyRanged (dutyAt ds d)) (InRange ds) range-decides (length ds) d l, lt-ltb d (length ds) (l .0))
+  bad-range d l = rw (found-lowest range-decides (length ds) d l, lt-ltb d (length ds) (l .0))
 
   -- so is a slice that is not whole
   bad-slice : (d : ℕ) → Lowest (Whole t ds) (length ds) d → planAt t m ds ≡ refused 6 d
   unfolding planAt badSlice
-  bad-slice d l = rw (found-lowest (λ i. whole t (dutyAt ds i)) (Whole t ds) slice-decides (length ds) d l, lt-ltb d (length ds) (l .0))
+  bad-slice d l = rw (found-lowest slice-decides (length ds) d l, lt-ltb d (length ds) (l .0))
 
   -- .. and comes about where that holds
   told-plan : (o : Outcome Table) → When m ss ps o → plan m ss ps ≡ o

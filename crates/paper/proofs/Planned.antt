@@ -3,15 +3,15 @@
 -- Assumes nothing.
 use Prim.Native.Nat.{ℕ, _≤_, _<_}
 use mathlib.Core.Path.{_≡_, refl, sym, ap, _∙_}
-use mathlib.Core.List.{List, map}
+use mathlib.Core.List.{List}
 use mathlib.Core.Logic.{_↔_}
+use native.Mathlib.Nat.{pos-of-dvd-of-pos}
 use native.Mathlib.Omega.{arith}
 use lib.Dec.{ltb}
-use lib.ListN.{length, getD, length-map, List·getD-map}
+use lib.ListN.{length, getD}
 use borrow.Author.Tests.{lt-ltb, le-ltb, ltb-true, ltb-false}
 use Rattle.laws.proofs.Cases.{by-cases}
 use Rattle.laws.proofs.Lists.{length-tab, map-tab, tab-getD}
-use Rattle.laws.proofs.Divisor.{gcdOf-positive}
 use Rattle.paper.specs.declared.Duty.{Duty}
 use Rattle.paper.specs.Words.{duty, blockLengthOf, Table}
 use Rattle.paper.specs.Sa1.{sa1}
@@ -22,19 +22,17 @@ use Rattle.paper.specs.Rules.{accepted}
 use Rattle.paper.specs.Statements.{Ranged, Meets}
 use Rattle.paper.specs.Text.{servicesOf, periodsOf}
 use Rattle.paper.proofs.Outcomes.{answered, answer-one}
+use Rattle.paper.proofs.Passed.{Ranges}
 use Rattle.paper.proofs.Accepted.{block-divides}
-use Rattle.paper.proofs.Sa1Table.{Fits, sa1-meets, ticks-within}
-use Rattle.paper.proofs.Sa1Accepted.{sa1-small, sa1-accepted}
-use Rattle.paper.proofs.PlanWhen.{Ranges, Fitting, When, engines-out, lengths-differ, duties-out, period-out, service-out, slice-broken, too-much, planned, plan-when}
+use Rattle.paper.proofs.Sa1Table.{Fits, sa1-ranged, sa1-meets, ticks-within}
+use Rattle.paper.proofs.AcceptedBytes.{meets-accepted}
+use Rattle.paper.proofs.PlanWhen.{Fitting, When, engines-out, lengths-differ, duties-out, period-out, service-out, slice-broken, too-much, planned, plan-when}
 
 -- ---- T
 
 -- it is above 0 where a duty is in range
 pub block-least : (ds : List Duty) → 1 ≤ length ds → Ranges ds → 1 ≤ blockLengthOf ds
-unfolding blockLengthOf
-block-least ds a r =
-    let g : Duty → ℕ = λ x. x .period in
-    gcdOf-positive (map g ds) 0 (rw (length-map ds g) a) (rw (List·getD-map g ds 0 (duty 0 0)) (r 0 a .period-least))
+block-least ds a r = pos-of-dvd-of-pos (block-divides ds 0 a) (r 0 a .period-least)
 
 -- ---- the duties of the two lists
 
@@ -99,7 +97,7 @@ module _ (m : ℕ) (ss ps : List ℕ) (t : Table) (h : plan m ss ps ≡ answer t
 
   -- it is in form
   pub planned-ranged : Ranged small t
-  planned-ranged = rw planned-sa1 (sa1-small (blockLengthOf (dutiesOf ss ps)) m (dutiesOf ss ps) planned-fits)
+  planned-ranged = rw planned-sa1 (sa1-ranged small (blockLengthOf (dutiesOf ss ps)) m (dutiesOf ss ps) planned-fits (omega arith))
 
   -- and meets the rules
   pub planned-meets : Meets t
@@ -107,7 +105,7 @@ module _ (m : ℕ) (ss ps : List ℕ) (t : Table) (h : plan m ss ps ≡ answer t
 
   -- its bytes are accepted and read as it
   pub planned-accepted : accepted (encode small t) ≡ answer t
-  planned-accepted = rw planned-sa1 (sa1-accepted (blockLengthOf (dutiesOf ss ps)) m (dutiesOf ss ps) planned-fits refl)
+  planned-accepted = meets-accepted t planned-ranged planned-meets
 
   -- it has the engines that were given, ..
   pub planned-engines : t .engines ≡ m

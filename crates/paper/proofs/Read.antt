@@ -2,7 +2,7 @@
 -- fields are in range and written again they are the bytes at its place, and the records follow one another to the end.
 -- Assumes nothing.
 use Prim.Native.Nat.{ℕ, _+_, _*_, _≤_, _<_}
-use mathlib.Core.Path.{_≡_, refl, sym, _∙_}
+use mathlib.Core.Path.{_≡_, refl, _∙_}
 use mathlib.Core.Bool.{Bool, not}
 use mathlib.Core.List.{List, [], _∷_, _++_}
 use native.Mathlib.Omega.{arith}
@@ -19,10 +19,7 @@ use Rattle.paper.specs.Words.{duty, run, Table}
 use Rattle.paper.specs.Outcome.{answer}
 use Rattle.paper.specs.Bytes.{Width, headBytes, dutyBytes, runBytes, endBytes, encode, headLength, dutyLength, runLength, endLength, dutyPlace, runPlace, ticksIn, enginesIn, dutiesIn, dutyIn, runIn, headGood, dutyGood, runGood, endGood, badDuty, goodRuns, tableIn, afterRuns, afterHead, parse}
 use Rattle.paper.specs.Statements.{DutyRanged, RunRanged, Ranged}
-use Rattle.paper.proofs.Outcomes.{answer-one}
-use Rattle.paper.proofs.Accepted.{past}
-use Rattle.paper.proofs.Fields.{encode-one}
-use Rattle.paper.proofs.Written.{Sound, ranged-fits}
+use Rattle.paper.proofs.Outcomes.{answer-one, past}
 use Rattle.paper.proofs.Passed.{Standing, HeadTold, head-told, duty-told, run-told, end-told}
 
 -- ---- each record written again
@@ -155,7 +152,7 @@ formed-encode w b n k y f =
     )
     (take-all (h + d + r + endLength) b (f .no-more))
 
--- ---- bytes and tables determine each other
+-- ---- the table that is read
 
 -- a table that is read is in range
 pub parse-ranged : (w : Width) (b : List ℕ) (t : Table) → parse w b ≡ answer t → Ranged w t
@@ -166,11 +163,3 @@ pub parse-told : (w : Width) (b : List ℕ) (t : Table) → AreBytes b → parse
 parse-told w b t y h =
     let p = parsed w b t h in
     (rw (← p .1) (formed-encode w b (dutiesIn w b) (goodRuns w b (dutiesIn w b)) y (p .0)), parse-ranged w b t h)
-
--- bytes that read as the same table are the same
-pub bytes-one : (w : Width) (b b′ : List ℕ) (t : Table) → AreBytes b → AreBytes b′ → parse w b ≡ answer t → parse w b′ ≡ answer t → b ≡ b′
-bytes-one w b b′ t y y′ h h′ = sym (parse-told w b t y h .0) ∙ parse-told w b′ t y′ h′ .0
-
--- tables in range with the same bytes are the same
-pub table-one : (w : Width) (t t′ : Table) → Sound w → Ranged w t → Ranged w t′ → encode w t ≡ encode w t′ → t ≡ t′
-table-one w t t′ s r r′ e = encode-one w t t′ (ranged-fits w t s r) (ranged-fits w t′ s r′) e

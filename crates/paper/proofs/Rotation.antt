@@ -10,7 +10,7 @@ use native.Mathlib.Nat.{not-suc-le-zero}
 use native.Mathlib.Numerals.{add-one}
 use native.Mathlib.Omega.{arith}
 use Rattle.laws.specs.Sum.{sumTo}
-use Rattle.laws.proofs.Cases.{by-cases, lt-or-le, not-both}
+use Rattle.laws.proofs.Cases.{by-cases, lt-or-le, by-order, not-both}
 use Rattle.laws.proofs.Sum.{sum-suc, sum-none}
 use Rattle.paper.specs.declared.Engine.{Engine}
 use Rattle.paper.specs.Words.{row, engine}
@@ -71,12 +71,7 @@ module _ (c : ℕ → Bool) where
   unfolding nextOf
   next-last e h = rw h
 
-  -- .. is of the same chain
-  pub next-first : (e : ℕ) → firstOf c (nextOf c e) ≡ firstOf c e
-  next-first e =
-      by-cases (c e) (λ p. rw (next-linked e p) (first-linked e p)) (λ p. rw (next-last e p) (first-twice e))
-
-  -- .. and is the next of no other
+  -- which is the next of no other
   pub next-one : (e d : ℕ) → nextOf c e ≡ nextOf c d → e ≡ d
   next-one e d h =
       by-cases (c e)
@@ -90,24 +85,19 @@ module _ (c : ℕ → Bool) where
 
       both : c e ≡ false → c d ≡ false → e ≡ d
       both p q =
-          lt-or-le e d
+          by-order e d
           (λ l. not-both (first-links d e (omega (arith, next-last e p, next-last d q, first-least e)) l) p)
-          (λ l. lt-or-le d e
-          (λ m. not-both (first-links e d (omega (arith, next-last e p, next-last d q, first-least d)) m) q)
-          (λ m. omega arith))
+          (λ l. not-both (first-links e d (omega (arith, next-last e p, next-last d q, first-least d)) l) q)
+          (λ e. e)
 
   -- ---- the row of an engine in a block
 
-  -- the walk's beginning and one block more, taken at the front
+  -- the walk's beginning
   pub row-start : (e : Engine) → rowAt c 0 e ≡ row (e .0)
   unfolding rowAt
   row-start e = refl
 
-  pub row-more : (b : ℕ) (e : Engine) → rowAt c (suc b) e ≡ rowAt c b (engine (nextOf c (e .0)))
-  unfolding rowAt
-  row-more b e = refl
-
-  -- .. and taken at the end: the step applied to the row
+  -- and one block more: the step applied to the row
   pub row-next : (b : ℕ) (e : Engine) → rowAt c (suc b) e ≡ row (nextOf c (rowAt c b e .0))
   unfolding rowAt
   row-next zero e = refl
@@ -115,11 +105,6 @@ module _ (c : ℕ → Bool) where
 
   pub row-after : (b : ℕ) (e : Engine) → rowAt c (b + 1) e ≡ row (nextOf c (rowAt c b e .0))
   row-after b e = rw (add-one b) (row-next b e)
-
-  -- an engine's row is in the engine's chain
-  pub row-first : (b : ℕ) (e : Engine) → firstOf c (rowAt c b e .0) ≡ firstOf c (e .0)
-  row-first zero e = rw (row-start e)
-  row-first (suc b) e = rw (row-more b e) (row-first b (engine (nextOf c (e .0))) ∙ next-first (e .0))
 
   -- two engines never have one row in a block
   pub row-one : (b : ℕ) (e d : ℕ) → rowAt c b (engine e) .0 ≡ rowAt c b (engine d) .0 → e ≡ d

@@ -12,12 +12,12 @@ use lib.Dec.{ltb, eqb}
 use lib.ListN.{length}
 use borrow.Author.Tests.{ltb-true, lt-ltb, eqb-true, eqb-false, eq-eqb, ne-eqb, not-false}
 use Rattle.laws.specs.Search.{first, any}
-use Rattle.laws.proofs.Cases.{by-cases, lt-or-le, not-both}
+use Rattle.laws.proofs.Cases.{by-cases, lt-or-le, by-order, not-both, refuted, and-left, and-right}
 use Rattle.laws.proofs.Search.{Clear, none-clear, clear-none}
-use Rattle.laws.proofs.Lists.{and-left, and-right}
+use Rattle.laws.proofs.Decides.{Decides, eqb-decides}
 use Rattle.paper.specs.declared.Duty.{Duty}
 use Rattle.paper.specs.declared.Run.{Run}
-use Rattle.paper.specs.Words.{stop, runAt, whole}
+use Rattle.paper.specs.Words.{stop, dutyAt, runAt, whole}
 use Rattle.paper.specs.Rules.{before, meet, unordered, overlaps, joins, twice, lowest}
 use Rattle.paper.specs.Statements.{Has, Apart}
 
@@ -91,7 +91,7 @@ pub meet-apart : (x y : Run) → meet x y ≡ false → Apart x y
 meet-apart x y h u p q = not-both (shares-meet x y u p q) h
 
 pub apart-meet : (x y : Run) → 1 ≤ x .length → 1 ≤ y .length → Apart x y → meet x y ≡ false
-apart-meet x y lx ly a = by-cases (meet x y) (λ h. let s = meet-shares x y lx ly h in absurd (a (s .0) (s .1) (s .2))) (λ h. h)
+apart-meet x y lx ly a = refuted (meet x y) (λ h. let s = meet-shares x y lx ly h in a (s .0) (s .1) (s .2))
 
 -- ---- a run and an earlier one
 
@@ -151,20 +151,27 @@ apart-twice x y lx ly a =
     (λ d. rw (r, d)))
 
 -- 15 of all runs: a run of the same row that stops where this one starts is another and stands before it
-pub joins-any : (xs : List Run) → InOrder xs → ((k : ℕ) → k < length xs → 1 ≤ runAt xs k .length) → NoPair joins xs → (j k : ℕ) → j < length xs → k < length xs → runAt xs j .row .0 ≡ runAt xs k .row .0 → runAt xs j .duty ≡ runAt xs k .duty → stop (runAt xs j) ≡ runAt xs k .first → ⊥
+abbrev pub NotJoined : List Run → Type 0
+NotJoined xs = (j k : ℕ) → j < length xs → k < length xs → runAt xs j .row .0 ≡ runAt xs k .row .0 → runAt xs j .duty ≡ runAt xs k .duty → stop (runAt xs j) ≡ runAt xs k .first → ⊥
+
+pub joins-any : (xs : List Run) → InOrder xs → ((k : ℕ) → k < length xs → 1 ≤ runAt xs k .length) → NoPair joins xs → NotJoined xs
 joins-any xs o long n j k hj hk r d s =
-    lt-or-le j k (λ l. joins-not (runAt xs j) (runAt xs k) (n j k l hk) r d s)
-    (λ l. lt-or-le k j
-    (λ m. let b = before-first (runAt xs k) (runAt xs j) (order-any xs o k j m hj) (sym r) in omega arith)
-    (λ m. let e : j ≡ k = omega arith in omega (arith, long j hj, ap (λ (i : ℕ). runAt xs i .first) e)))
+    by-order j k (λ l. joins-not (runAt xs j) (runAt xs k) (n j k l hk) r d s)
+    (λ l. let b = before-first (runAt xs k) (runAt xs j) (order-any xs o k j l hj) (sym r) in omega arith)
+    (λ e. omega (arith, long j hj, ap (λ (i : ℕ). runAt xs i .first) e))
 
 -- ---- a duty
 
 -- 12: a slice is whole exactly when the period divides T times the service
-pub whole-divides : (t : ℕ) (x : Duty) → whole t x ≡ true → x .period ∣ t * x .service
+pub whole-decides : (t : ℕ) (x : Duty) → Decides (whole t x) (x .period ∣ t * x .service)
 unfolding whole
-whole-divides t x h = dvd-of-mod-eq-zero (x .period) (eqb-true (t * x .service % x .period) 0 h)
+whole-decides t x =
+    let d = eqb-decides (t * x .service % x .period) 0 in
+    ((λ h. dvd-of-mod-eq-zero (x .period) (d .0 h)), (λ w. d .1 (mod-eq-zero-of-dvd (x .period) w)))
 
-pub divides-whole : (t : ℕ) (x : Duty) → x .period ∣ t * x .service → whole t x ≡ true
-unfolding whole
-divides-whole t x d = eq-eqb (t * x .service % x .period) 0 (mod-eq-zero-of-dvd (x .period) d)
+-- what 6 and 12 ask of duty i, and of all duties
+abbrev pub Whole : ℕ → List Duty → ℕ → Type 0
+Whole t ds i = dutyAt ds i .period ∣ t * dutyAt ds i .service
+
+abbrev pub Wholes : ℕ → List Duty → Type 0
+Wholes t ds = (i : ℕ) → i < length ds → Whole t ds i

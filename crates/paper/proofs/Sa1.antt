@@ -5,7 +5,7 @@
 use Prim.Native.Nat.{ℕ, _+_, _*_, _-_, _≤_, _<_}
 use mathlib.Core.Path.{_≡_}
 use mathlib.Core.List.{List, [], _∷_}
-use native.Mathlib.Nat.{mul-le-mul-right, lt-of-mul-lt-mul-right}
+use native.Mathlib.Nat.{not-suc-le-zero, lt-of-mul-lt-mul-right}
 use native.Mathlib.Omega.{arith}
 use lib.Dec.{leb, ltb}
 use lib.ListN.{length}
@@ -37,7 +37,7 @@ lay-cases t n ns i r u a b P fits splits =
     (λ q. rw (p, q) (splits (u + n - t) (omega (arith, leb-false)) (omega (arith, leb-false)) (omega (arith, leb-false)))))
 
 -- a run of duties i to j - 1, inside its row and between the places lo and hi
-pub record Laid (t i j lo hi : ℕ) (x : Run) : Type 0 where
+pub record Between (t i j lo hi : ℕ) (x : Run) : Type 0 where
   pub duty-least : i ≤ x .duty
   pub duty-below : x .duty < j
   pub some-units : 1 ≤ x .length
@@ -52,16 +52,16 @@ pub record Follows (t : ℕ) (x y : Run) : Type 0 where
 
 -- x is one of the runs of slices laid from row r and unit u on, the first of them duty i's: between their start and their end
 abbrev pub Of : (t : ℕ) → List ℕ → (i r u : ℕ) → Run → Type 0
-Of t ns i r u = Laid t i (i + length ns) (r * t + u) (r * t + u + sumOf ns)
+Of t ns i r u = Between t i (i + length ns) (r * t + u) (r * t + u + sumOf ns)
 
 -- each run is inside its row, has a unit, and stands between the place where the first slice starts and that where the last stops
-pub laid : (t : ℕ) (ns : List ℕ) (i r u : ℕ) → u < t → Each (Slice t) ns → Each (Of t ns i r u) (lay t ns i r u)
+pub laid-between : (t : ℕ) (ns : List ℕ) (i r u : ℕ) → u < t → Each (Slice t) ns → Each (Of t ns i r u) (lay t ns i r u)
 unfolding lay sumOf
-laid t [] i r u a h = tt
-laid t (n ∷ ns) i r u a h =
+laid-between t [] i r u a h = tt
+laid-between t (n ∷ ns) i r u a h =
     lay-cases t n ns i r u a (h .0 .1) (Each (Of t (n ∷ ns) i r u))
-    (λ r′ u′ b e c d. (omega arith, rest r′ u′ e (laid t ns (i + 1) r′ u′ c (h .1))))
-    (λ u′ e c d. (omega arith, (omega arith, rest (r + 1) u′ (omega arith) (laid t ns (i + 1) (r + 1) u′ c (h .1)))))
+    (λ r′ u′ b e c d. (omega arith, rest r′ u′ e (laid-between t ns (i + 1) r′ u′ c (h .1))))
+    (λ u′ e c d. (omega arith, (omega arith, rest (r + 1) u′ (omega arith) (laid-between t ns (i + 1) (r + 1) u′ c (h .1)))))
   where
     rest : (r′ u′ : ℕ) → r′ * t + u′ ≡ r * t + u + n → Each (Of t ns (i + 1) r′ u′) (lay t ns (i + 1) r′ u′) → Each (Of t (n ∷ ns) i r u) (lay t ns (i + 1) r′ u′)
     rest r′ u′ e l = each-map (Of t ns (i + 1) r′ u′) (Of t (n ∷ ns) i r u) (λ x k. omega arith) (lay t ns (i + 1) r′ u′) l
@@ -79,39 +79,25 @@ follows t (n ∷ ns) i r u a h =
     ))
   where
     ahead : (r₁ u₁ l r′ u′ : ℕ) → u′ < t → r₁ * t + u₁ + l ≤ r′ * t + u′ → Each (Follows t (run r₁ i u₁ l)) (lay t ns (i + 1) r′ u′)
-    ahead r₁ u₁ l r′ u′ c e = each-map (Of t ns (i + 1) r′ u′) (Follows t (run r₁ i u₁ l)) (λ x k. record { after = omega arith; split = λ s. omega arith }) (lay t ns (i + 1) r′ u′) (laid t ns (i + 1) r′ u′ c (h .1))
+    ahead r₁ u₁ l r′ u′ c e = each-map (Of t ns (i + 1) r′ u′) (Follows t (run r₁ i u₁ l)) (λ x k. record { after = omega arith; split = λ s. omega arith }) (lay t ns (i + 1) r′ u′) (laid-between t ns (i + 1) r′ u′ c (h .1))
 
--- where the slices fit m rows, every run's row is below m ..
+-- where the slices fit m rows, every run's row is below m
 pub rows-below :
     (t m : ℕ) (ns : List ℕ) (i r u : ℕ) → u < t → Each (Slice t) ns → r * t + u + sumOf ns ≤ m * t → Each (λ x. x .row .0 < m) (lay t ns i r u)
 rows-below t m ns i r u a h fit =
-    each-map (Of t ns i r u) (λ x. x .row .0 < m) (λ x l. lt-of-mul-lt-mul-right t (omega arith)) (lay t ns i r u) (laid t ns i r u a h)
-
--- .. and where every run's row is below m, the slices fit
-pub rows-fit :
-    (t m : ℕ) (ns : List ℕ) (i r u : ℕ) → u < t → Each (Slice t) ns → r * t + u ≤ m * t → Each (λ x. x .row .0 < m) (lay t ns i r u)
-    → r * t + u + sumOf ns ≤ m * t
-unfolding sumOf
-rows-fit t m [] i r u a h z = λ below. omega arith
-rows-fit t m (n ∷ ns) i r u a h z =
-    lay-cases t n ns i r u a (h .0 .1) (λ xs. Each (λ x. x .row .0 < m) xs → r * t + u + (n + sumOf ns) ≤ m * t)
-    (λ r′ u′ b e c d below.
-    let k : (r + 1) * t ≤ m * t = mul-le-mul-right t (omega arith) in
-    omega (arith, rows-fit t m ns (i + 1) r′ u′ c (h .1) (omega arith) (below .1)))
-    (λ u′ e c d below.
-    let k : (r + 2) * t ≤ m * t = mul-le-mul-right t (omega arith) in
-    omega (arith, rows-fit t m ns (i + 1) (r + 1) u′ c (h .1) (omega arith) (below .1 .1)))
+    each-map (Of t ns i r u) (λ x. x .row .0 < m) (λ x l. lt-of-mul-lt-mul-right t (omega arith)) (lay t ns i r u) (laid-between t ns i r u a h)
 
 -- at most one run more than duties for each row but the first
 pub few-runs :
-    (t m n : ℕ) (ns : List ℕ) (i r u : ℕ) → u < t → Each (Slice t) (n ∷ ns) → r * t + u + sumOf (n ∷ ns) ≤ m * t
-    → length (lay t (n ∷ ns) i r u) + r + 1 ≤ length (n ∷ ns) + m
+    (t m : ℕ) (ns : List ℕ) (i r u : ℕ) → u < t → Each (Slice t) ns → 1 ≤ length ns → r * t + u + sumOf ns ≤ m * t
+    → length (lay t ns i r u) + r + 1 ≤ length ns + m
 unfolding sumOf lay
-few-runs t m n [] i r u a h z =
+few-runs t m [] i r u a h s z = absurd (not-suc-le-zero s)
+few-runs t m (n ∷ []) i r u a h s z =
     lay-cases t n [] i r u a (h .0 .1) (λ xs. length xs + r + 1 ≤ 1 + m)
     (λ r′ u′ b e c d. let k : r < m = lt-of-mul-lt-mul-right t (omega arith) in omega arith)
     (λ u′ e c d. let k : r + 1 < m = lt-of-mul-lt-mul-right t (omega arith) in omega arith)
-few-runs t m n (n′ ∷ ns) i r u a h z =
+few-runs t m (n ∷ (n′ ∷ ns)) i r u a h s z =
     lay-cases t n (n′ ∷ ns) i r u a (h .0 .1) (λ xs. length xs + r + 1 ≤ length (n ∷ n′ ∷ ns) + m)
-    (λ r′ u′ b e c d. omega (arith, few-runs t m n′ ns (i + 1) r′ u′ c (h .1) (omega arith)))
-    (λ u′ e c d. omega (arith, few-runs t m n′ ns (i + 1) (r + 1) u′ c (h .1) (omega arith)))
+    (λ r′ u′ b e c d. omega (arith, few-runs t m (n′ ∷ ns) (i + 1) r′ u′ c (h .1) (omega arith) (omega arith)))
+    (λ u′ e c d. omega (arith, few-runs t m (n′ ∷ ns) (i + 1) (r + 1) u′ c (h .1) (omega arith) (omega arith)))

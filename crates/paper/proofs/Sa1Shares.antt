@@ -11,7 +11,7 @@ use native.Mathlib.Omega.{arith}
 use lib.Dec.{ltb, eqb}
 use lib.ListN.{length, getD}
 use borrow.Author.Tests.{eq-eqb, ne-eqb}
-use Rattle.laws.specs.Choice.{one-if}
+use Rattle.laws.specs.Choice.{pick, one-if}
 use Rattle.laws.specs.Lists.{sumOf}
 use Rattle.laws.specs.Sum.{sumTo}
 use Rattle.laws.proofs.Sum.{sum-none, sum-first, sum-ext}
@@ -20,71 +20,70 @@ use Rattle.paper.specs.declared.Run.{Run}
 use Rattle.paper.specs.Words.{run}
 use Rattle.paper.specs.Sa1.{lay}
 use Rattle.paper.specs.Rules.{unitsOf}
-use Rattle.paper.proofs.Sa1.{Slice, Of, lay-cases, laid, few-runs}
+use Rattle.paper.proofs.Sa1.{Slice, Of, lay-cases, laid-between, few-runs}
 
--- a run of the duty adds its length
-pub units-own : (x : Run) (xs : List Run) (i : ℕ) → x .duty ≡ i → unitsOf (x ∷ xs) i ≡ x .length + unitsOf xs i
-unfolding unitsOf
-units-own x xs i e = rw (eq-eqb (x .duty) i e)
+-- what the runs of duty i add up to, where run x counts f x
+unfoldable pub shareOf : (Run → ℕ) → List Run → ℕ → ℕ
+shareOf f [] i = zero
+shareOf f (x ∷ xs) i = pick (eqb (x .duty) i) (f x) 0 + shareOf f xs i
 
--- a run of another adds nothing
-pub units-other : (x : Run) (xs : List Run) (i : ℕ) → (x .duty ≡ i → ⊥) → unitsOf (x ∷ xs) i ≡ unitsOf xs i
-unfolding unitsOf
-units-other x xs i e = rw (ne-eqb (x .duty) i e) (omega arith)
+-- its units, where a run counts its length
+units-share : (xs : List Run) (i : ℕ) → unitsOf xs i ≡ shareOf (λ x. x .length) xs i
+unfolding unitsOf shareOf
+units-share [] i = refl
+units-share (x ∷ xs) i = ap (λ n. pick (eqb (x .duty) i) (x .length) 0 + n) (units-share xs i)
 
--- runs of other duties give it no units
-pub units-none : (xs : List Run) (i : ℕ) → Each (λ x. x .duty ≡ i → ⊥) xs → unitsOf xs i ≡ 0
-unfolding unitsOf
-units-none [] i h = refl
-units-none (x ∷ xs) i h = units-other x xs i (h .0) ∙ units-none xs i (h .1)
+-- how many they are, where a run counts 1
+abbrev pub runsOf : List Run → ℕ → ℕ
+runsOf xs i = shareOf (λ x. 1) xs i
+
+-- a run of the duty counts
+share-own : (f : Run → ℕ) (x : Run) (xs : List Run) (i : ℕ) → x .duty ≡ i → shareOf f (x ∷ xs) i ≡ f x + shareOf f xs i
+unfolding shareOf
+share-own f x xs i e = rw (eq-eqb (x .duty) i e)
+
+-- a run of another does not
+share-other : (f : Run → ℕ) (x : Run) (xs : List Run) (i : ℕ) → (x .duty ≡ i → ⊥) → shareOf f (x ∷ xs) i ≡ shareOf f xs i
+unfolding shareOf
+share-other f x xs i e = rw (ne-eqb (x .duty) i e) (omega arith)
+
+-- so runs of other duties count nothing
+share-none : (f : Run → ℕ) (xs : List Run) (i : ℕ) → Each (λ x. x .duty ≡ i → ⊥) xs → shareOf f xs i ≡ 0
+unfolding shareOf
+share-none f [] i h = refl
+share-none f (x ∷ xs) i h = share-other f x xs i (h .0) ∙ share-none f xs i (h .1)
 
 -- what is laid for the duties after i is none of i's
-pub not-earlier : (t : ℕ) (ns : List ℕ) (i r u : ℕ) → u < t → Each (Slice t) ns → Each (λ x. x .duty ≡ i → ⊥) (lay t ns (i + 1) r u)
-not-earlier t ns i r u a h = each-map (Of t ns (i + 1) r u) (λ x. x .duty ≡ i → ⊥) (λ x l e. omega arith) (lay t ns (i + 1) r u) (laid t ns (i + 1) r u a h)
-
--- so they give it no units
-units-later : (t : ℕ) (ns : List ℕ) (i r u : ℕ) → u < t → Each (Slice t) ns → unitsOf (lay t ns (i + 1) r u) i ≡ 0
-units-later t ns i r u a h = units-none (lay t ns (i + 1) r u) i (not-earlier t ns i r u a h)
+share-later : (f : Run → ℕ) (t : ℕ) (ns : List ℕ) (i r u : ℕ) → u < t → Each (Slice t) ns → shareOf f (lay t ns (i + 1) r u) i ≡ 0
+share-later f t ns i r u a h =
+    share-none f (lay t ns (i + 1) r u) i
+    (each-map (Of t ns (i + 1) r u) (λ x. x .duty ≡ i → ⊥) (λ x l e. omega arith) (lay t ns (i + 1) r u) (laid-between t ns (i + 1) r u a h))
 
 -- duty i + (k + 1) is the one k after i + 1
 next : (i k : ℕ) → i + 1 + k ≡ i + suc k
 next i k = omega arith
 
 -- each duty's runs add up to its slice
-pub units-laid : (t : ℕ) (ns : List ℕ) (i r u : ℕ) → u < t → Each (Slice t) ns → (k : ℕ) → k < length ns → unitsOf (lay t ns i r u) (i + k) ≡ getD ns k 0
-units-laid t [] i r u a h k l = absurd (not-suc-le-zero l)
-units-laid t (n ∷ ns) i r u a h zero l =
+lengths-laid :
+    (t : ℕ) (ns : List ℕ) (i r u : ℕ) → u < t → Each (Slice t) ns → (k : ℕ) → k < length ns
+    → shareOf (λ x. x .length) (lay t ns i r u) (i + k) ≡ getD ns k 0
+lengths-laid t [] i r u a h k l = absurd (not-suc-le-zero l)
+lengths-laid t (n ∷ ns) i r u a h zero l =
+    let f : Run → ℕ = λ x. x .length in
     rw add-zero
-    (lay-cases t n ns i r u a (h .0 .1) (λ xs. unitsOf xs i ≡ n)
-    (λ r′ u′ b e c d. units-own _ _ i refl ∙ omega (arith, units-later t ns i r′ u′ c (h .1)))
-    (λ u′ e c d. units-own _ _ i refl ∙ omega (arith, units-own (run (r + 1) i 0 u′) (lay t ns (i + 1) (r + 1) u′) i refl, units-later t ns i (r + 1) u′ c (h .1))))
-units-laid t (n ∷ ns) i r u a h (suc k) l =
+    (lay-cases t n ns i r u a (h .0 .1) (λ xs. shareOf f xs i ≡ n)
+    (λ r′ u′ b e c d. share-own f _ _ i refl ∙ omega (arith, share-later f t ns i r′ u′ c (h .1)))
+    (λ u′ e c d. share-own f _ _ i refl ∙ omega (arith, share-own f (run (r + 1) i 0 u′) (lay t ns (i + 1) (r + 1) u′) i refl, share-later f t ns i (r + 1) u′ c (h .1))))
+lengths-laid t (n ∷ ns) i r u a h (suc k) l =
+    let f : Run → ℕ = λ x. x .length in
     rw (sym (next i k))
-    (lay-cases t n ns i r u a (h .0 .1) (λ xs. unitsOf xs (i + 1 + k) ≡ getD ns k 0)
-    (λ r′ u′ b e c d. units-other _ _ (i + 1 + k) (λ p. omega arith) ∙ units-laid t ns (i + 1) r′ u′ c (h .1) k (le-of-suc-le-suc l))
-    (λ u′ e c d. units-other _ _ (i + 1 + k) (λ p. omega arith) ∙ units-other _ _ (i + 1 + k) (λ p. omega arith)
-    ∙ units-laid t ns (i + 1) (r + 1) u′ c (h .1) k (le-of-suc-le-suc l)))
+    (lay-cases t n ns i r u a (h .0 .1) (λ xs. shareOf f xs (i + 1 + k) ≡ getD ns k 0)
+    (λ r′ u′ b e c d. share-other f _ _ (i + 1 + k) (λ p. omega arith) ∙ lengths-laid t ns (i + 1) r′ u′ c (h .1) k (le-of-suc-le-suc l))
+    (λ u′ e c d. share-other f _ _ (i + 1 + k) (λ p. omega arith) ∙ share-other f _ _ (i + 1 + k) (λ p. omega arith)
+    ∙ lengths-laid t ns (i + 1) (r + 1) u′ c (h .1) k (le-of-suc-le-suc l)))
 
--- how many runs are duty i's
-unfoldable pub runsOf : List Run → ℕ → ℕ
-runsOf [] i = zero
-runsOf (x ∷ xs) i = one-if (eqb (x .duty) i) + runsOf xs i
-
--- a run of the duty counts
-pub runs-own : (x : Run) (xs : List Run) (i : ℕ) → x .duty ≡ i → runsOf (x ∷ xs) i ≡ 1 + runsOf xs i
-unfolding runsOf
-runs-own x xs i e = rw (eq-eqb (x .duty) i e)
-
--- a run of another does not
-pub runs-other : (x : Run) (xs : List Run) (i : ℕ) → (x .duty ≡ i → ⊥) → runsOf (x ∷ xs) i ≡ runsOf xs i
-unfolding runsOf
-runs-other x xs i e = rw (ne-eqb (x .duty) i e) (omega arith)
-
--- so runs of other duties count nothing
-pub runs-none : (xs : List Run) (i : ℕ) → Each (λ x. x .duty ≡ i → ⊥) xs → runsOf xs i ≡ 0
-unfolding runsOf
-runs-none [] i h = refl
-runs-none (x ∷ xs) i h = runs-other x xs i (h .0) ∙ runs-none xs i (h .1)
+pub units-laid : (t : ℕ) (ns : List ℕ) (i r u : ℕ) → u < t → Each (Slice t) ns → (k : ℕ) → k < length ns → unitsOf (lay t ns i r u) (i + k) ≡ getD ns k 0
+units-laid t ns i r u a h k l = units-share (lay t ns i r u) (i + k) ∙ lengths-laid t ns i r u a h k l
 
 -- the duty is split: it has more than one run
 abbrev pub isSplit : List Run → ℕ → Bool
@@ -100,10 +99,6 @@ splits-step xs later i n c own others =
     (sum-ext n (λ k. one-if (isSplit xs (i + suc k))) (λ k. one-if (isSplit later (i + 1 + k)))
     (λ k h. rw (← next i k, others (i + 1 + k) (omega arith)))))
 
--- what is laid for the duties after i has no run of i's
-runs-later : (t : ℕ) (ns : List ℕ) (i r u : ℕ) → u < t → Each (Slice t) ns → runsOf (lay t ns (i + 1) r u) i ≡ 0
-runs-later t ns i r u a h = runs-none (lay t ns (i + 1) r u) i (not-earlier t ns i r u a h)
-
 -- there is one run for each duty, and one more for each that is split
 pub splits-laid :
     (t : ℕ) (ns : List ℕ) (i r u : ℕ) → u < t → Each (Slice t) ns
@@ -118,8 +113,8 @@ splits-laid t (n ∷ ns) i r u a h =
     omega (
       arith,
       splits-laid t ns (i + 1) r′ u′ c (h .1),
-      splits-step (x ∷ later) later i (length ns) 1 (runs-own x later i refl ∙ omega (arith, runs-later t ns i r′ u′ c (h .1)))
-          (λ j l. runs-other x later j (λ p. omega arith)),
+      splits-step (x ∷ later) later i (length ns) 1 (share-own (λ x. 1) x later i refl ∙ omega (arith, share-later (λ x. 1) t ns i r′ u′ c (h .1)))
+          (λ j l. share-other (λ x. 1) x later j (λ p. omega arith)),
     ))
     (λ u′ e c d.
     let x = run r i u (t - u) in
@@ -129,18 +124,18 @@ splits-laid t (n ∷ ns) i r u a h =
       arith,
       splits-laid t ns (i + 1) (r + 1) u′ c (h .1),
       splits-step (x ∷ y ∷ later) later i (length ns) 2
-          (runs-own x (y ∷ later) i refl ∙ omega (arith, runs-own y later i refl, runs-later t ns i (r + 1) u′ c (h .1)))
-          (λ j l. runs-other x (y ∷ later) j (λ p. omega arith) ∙ runs-other y later j (λ p. omega arith)),
+          (share-own (λ x. 1) x (y ∷ later) i refl ∙ omega (arith, share-own (λ x. 1) y later i refl, share-later (λ x. 1) t ns i (r + 1) u′ c (h .1)))
+          (λ j l. share-other (λ x. 1) x (y ∷ later) j (λ p. omega arith) ∙ share-other (λ x. 1) y later j (λ p. omega arith)),
     ))
 
 -- fewer duties are split than there are rows
 pub few-splits :
-    (t m n : ℕ) (ns : List ℕ) → 1 ≤ t → Each (Slice t) (n ∷ ns) → sumOf (n ∷ ns) ≤ m * t
-    → sumTo (length (n ∷ ns)) (λ i. one-if (isSplit (lay t (n ∷ ns) 0 0 0) i)) + 1 ≤ m
-few-splits t m n ns a h fit =
+    (t m : ℕ) (ns : List ℕ) → 1 ≤ t → Each (Slice t) ns → 1 ≤ length ns → sumOf ns ≤ m * t
+    → sumTo (length ns) (λ i. one-if (isSplit (lay t ns 0 0 0) i)) + 1 ≤ m
+few-splits t m ns a h s fit =
     omega (
       arith,
-      few-runs t m n ns 0 0 0 a h (omega arith),
-      splits-laid t (n ∷ ns) 0 0 0 a h,
-      sum-ext (length (n ∷ ns)) (λ i. one-if (isSplit (lay t (n ∷ ns) 0 0 0) (0 + i))) (λ i. one-if (isSplit (lay t (n ∷ ns) 0 0 0) i)) (λ i l. rw zero-add),
+      few-runs t m ns 0 0 0 a h s (omega arith),
+      splits-laid t ns 0 0 0 a h,
+      sum-ext (length ns) (λ i. one-if (isSplit (lay t ns 0 0 0) (0 + i))) (λ i. one-if (isSplit (lay t ns 0 0 0) i)) (λ i l. rw zero-add),
     )

@@ -6,15 +6,13 @@ use Prim.Native.Nat.{ℕ, zero, suc, _+_, _*_, _≤_, _<_, _∣_}
 use mathlib.Core.Path.{_≡_, refl, sym, ap, _∙_}
 use mathlib.Core.Bool.{true}
 use mathlib.Core.List.{List, [], _∷_}
-use native.Mathlib.Nat.{not-suc-le-zero, le-antisymm, le-of-suc-le-suc, le-div-iff-mul-le, div-le-of-le-mul, le-of-dvd, mul-pos, mul-le-mul-left, lt-of-mul-lt-mul-right, zero-add}
+use native.Mathlib.Nat.{not-suc-le-zero, le-of-suc-le-suc, le-div-iff-mul-le, div-le-of-le-mul, le-of-dvd, mul-pos, mul-le-mul-left, lt-of-mul-lt-mul-right, zero-add}
 use native.Mathlib.Omega.{arith}
-use lib.Dec.{ltb, eqb}
 use lib.ListN.{length, getD, length-map}
-use borrow.Author.Tests.{lt-ltb, ltb-true, ltb-false, eqb-true, eqb-false}
 use Rattle.laws.specs.Choice.{one-if}
 use Rattle.laws.specs.Sum.{sumTo}
 use Rattle.laws.specs.Lists.{sumOf}
-use Rattle.laws.proofs.Cases.{by-cases}
+use Rattle.laws.proofs.Cases.{by-order}
 use Rattle.laws.proofs.Each.{Each, each-at, at-each, each-of-map, pairs-at}
 use Rattle.paper.specs.declared.Duty.{Duty}
 use Rattle.paper.specs.declared.Run.{Run}
@@ -23,7 +21,10 @@ use Rattle.paper.specs.Sa1.{lay, slices, sa1}
 use Rattle.paper.specs.Bytes.{Width, mostTicks}
 use Rattle.paper.specs.Rules.{before, unitsOf}
 use Rattle.paper.specs.Statements.{DutyRanged, RunRanged, Ranged, Apart, Meets}
-use Rattle.paper.proofs.Sa1.{Slice, Of, Follows, laid, follows, rows-below, few-runs}
+use Rattle.paper.proofs.Passed.{Ranges}
+use Rattle.paper.proofs.Rules.{InOrder, NotJoined, Wholes, before-when}
+use Rattle.paper.proofs.Holding.{RowsApart}
+use Rattle.paper.proofs.Sa1.{Slice, Of, Follows, laid-between, follows, rows-below, few-runs}
 use Rattle.paper.proofs.Sa1Shares.{units-laid, isSplit, few-splits}
 
 -- a whole slice is from 1 to T
@@ -36,7 +37,7 @@ slice-bounds t x a d w = (
 
 -- a T that divides the periods is no longer than the longest period may be
 pub ticks-within :
-    (t : ℕ) (ds : List Duty) → 1 ≤ length ds → ((i : ℕ) → i < length ds → DutyRanged (dutyAt ds i))
+    (t : ℕ) (ds : List Duty) → 1 ≤ length ds → Ranges ds
     → ((i : ℕ) → i < length ds → t ∣ dutyAt ds i .period) → t ≤ mostTicks
 ticks-within t ds a r d = omega (arith, r 0 a, le-of-dvd (r 0 a .period-least) (d 0 a))
 
@@ -48,8 +49,8 @@ pub record Fits (w : Width) (t m : ℕ) (ds : List Duty) : Type 0 where
   pub engines-most : m ≤ w .mostEngines
   pub duties-least : 1 ≤ length ds
   pub duties-most : length ds ≤ w .mostDuties
-  pub duty-ranged : (i : ℕ) → i < length ds → DutyRanged (dutyAt ds i)
-  pub slices-whole : (i : ℕ) → i < length ds → dutyAt ds i .period ∣ t * dutyAt ds i .service
+  pub duty-ranged : Ranges ds
+  pub slices-whole : Wholes t ds
   pub slices-fit : sumOf (slices t ds) ≤ m * t
 
 -- the slice of duty i in the list of all
@@ -58,17 +59,11 @@ slices-at t [] i h = absurd (not-suc-le-zero h)
 slices-at t (x ∷ ds) zero h = refl
 slices-at t (x ∷ ds) (suc i) h = slices-at t ds i (le-of-suc-le-suc h)
 
--- a run that follows another is on its row or a later one
-row-after : (t : ℕ) (x y : Run) → Follows t x y → 1 ≤ y .length → stop y ≤ t → x .row .0 < y .row .0 + 1
-row-after t x y f a b = lt-of-mul-lt-mul-right t (omega (arith, f .after))
-
--- and after it by (row, first unit)
+-- a run that follows another is after it by (row, first unit)
 before-after : (t : ℕ) (x y : Run) → Follows t x y → 1 ≤ x .length → 1 ≤ y .length → stop y ≤ t → before x y ≡ true
-unfolding before
 before-after t x y f a b c =
-    by-cases (eqb (x .row .0) (y .row .0))
-    (λ p. rw p (lt-ltb (x .first) (y .first) (omega (arith, f .after, ap (λ (r : ℕ). r * t) (eqb-true (x .row .0) (y .row .0) p)))))
-    (λ p. rw p (lt-ltb (x .row .0) (y .row .0) (omega (arith, row-after t x y f b c, eqb-false (x .row .0) (y .row .0) p))))
+    let row : x .row .0 < y .row .0 + 1 = lt-of-mul-lt-mul-right t (omega (arith, f .after)) in
+    before-when x y (omega arith) (λ e. omega (arith, f .after, ap (λ (r : ℕ). r * t) e))
 
 -- on one row it starts where the other has stopped
 pub apart-after : (t : ℕ) (x y : Run) → Follows t x y → x .row .0 ≡ y .row .0 → Apart x y
@@ -85,7 +80,7 @@ module _ (w : Width) (t m : ℕ) (ds : List Duty) (f : Fits w t m ds) where
   -- run k by itself
   run-laid : (k : ℕ) → k < length (sa1 t m ds .runs) → Of t (slices t ds) 0 0 0 (runAt (sa1 t m ds .runs) k)
   unfolding sa1
-  run-laid k h = each-at (Of t (slices t ds) 0 0 0) (run 0 0 0 0) (lay t (slices t ds) 0 0 0) (laid t (slices t ds) 0 0 0 (f .ticks-least) all-slices) k h
+  run-laid k h = each-at (Of t (slices t ds) 0 0 0) (run 0 0 0 0) (lay t (slices t ds) 0 0 0) (laid-between t (slices t ds) 0 0 0 (f .ticks-least) all-slices) k h
 
   -- run k with an earlier one
   run-follows : (j k : ℕ) → j < k → k < length (sa1 t m ds .runs) → Follows t (runAt (sa1 t m ds .runs) j) (runAt (sa1 t m ds .runs) k)
@@ -106,23 +101,15 @@ module _ (w : Width) (t m : ℕ) (ds : List Duty) (f : Fits w t m ds) where
   -- no more runs than duties and engines less one
   pub sa1-few-runs : length (sa1 t m ds .runs) + 1 ≤ length ds + m
   unfolding sa1
-  sa1-few-runs = few ds all-slices (f .duties-least) (f .slices-fit)
-    where
-      few : (ds : List Duty) → Each (Slice t) (slices t ds) → 1 ≤ length ds → sumOf (slices t ds) ≤ m * t → length (lay t (slices t ds) 0 0 0) + 1 ≤ length ds + m
-      few [] h a b = absurd (not-suc-le-zero a)
-      few (x ∷ xs) h a b = omega (arith, length-map xs (slice t), few-runs t m (slice t x) (slices t xs) 0 0 0 (f .ticks-least) h (omega arith))
+  sa1-few-runs =
+      omega (arith, length-map ds (slice t), few-runs t m (slices t ds) 0 0 0 (f .ticks-least) all-slices (omega (arith, f .duties-least, length-map ds (slice t))) (omega (arith, f .slices-fit)))
 
   -- fewer duties are split than there are engines
   pub sa1-few-splits : sumTo (length ds) (λ i. one-if (isSplit (sa1 t m ds .runs) i)) + 1 ≤ m
   unfolding sa1
-  sa1-few-splits = few ds all-slices (f .duties-least) (f .slices-fit)
-    where
-      few :
-          (ds : List Duty) → Each (Slice t) (slices t ds) → 1 ≤ length ds → sumOf (slices t ds) ≤ m * t
-          → sumTo (length ds) (λ i. one-if (isSplit (lay t (slices t ds) 0 0 0) i)) + 1 ≤ m
-      few [] h a b = absurd (not-suc-le-zero a)
-      few (x ∷ xs) h a b =
-          rw (← length-map xs (slice t)) (few-splits t m (slice t x) (slices t xs) (f .ticks-least) h b)
+  sa1-few-splits =
+      rw (← length-map ds (slice t))
+      (few-splits t m (slices t ds) (f .ticks-least) all-slices (omega (arith, f .duties-least, length-map ds (slice t))) (f .slices-fit))
 
   -- the table is in form
   pub sa1-ranged : w .mostDuties + w .mostEngines ≤ w .mostRuns + 1 → Ranged w (sa1 t m ds)
@@ -141,28 +128,24 @@ module _ (w : Width) (t m : ℕ) (ds : List Duty) (f : Fits w t m ds) where
       }
 
   -- rule 12
-  pub sa1-whole : (i : ℕ) → i < length (sa1 t m ds .duties) → dutyAt (sa1 t m ds .duties) i .period ∣ sa1 t m ds .ticks * dutyAt (sa1 t m ds .duties) i .service
+  pub sa1-whole : Wholes (sa1 t m ds .ticks) (sa1 t m ds .duties)
   unfolding sa1
   sa1-whole = f .slices-whole
 
   -- rule 13
-  pub sa1-in-order : (k : ℕ) → k + 1 < length (sa1 t m ds .runs) → before (runAt (sa1 t m ds .runs) k) (runAt (sa1 t m ds .runs) (k + 1)) ≡ true
+  pub sa1-in-order : InOrder (sa1 t m ds .runs)
   sa1-in-order k h =
       before-after t _ _ (run-follows k (k + 1) (omega arith) h) (run-laid k (omega arith) .some-units) (run-laid (k + 1) h .some-units) (run-laid (k + 1) h .inside)
 
   -- rule 14
-  pub sa1-apart-in-row : (j k : ℕ) → j < k → k < length (sa1 t m ds .runs) → runAt (sa1 t m ds .runs) j .row .0 ≡ runAt (sa1 t m ds .runs) k .row .0
-      → Apart (runAt (sa1 t m ds .runs) j) (runAt (sa1 t m ds .runs) k)
+  pub sa1-apart-in-row : RowsApart (sa1 t m ds .runs)
   sa1-apart-in-row j k l h e = apart-after t _ _ (run-follows j k l h) e
 
   -- rule 15
-  pub sa1-not-joined : (j k : ℕ) → j < length (sa1 t m ds .runs) → k < length (sa1 t m ds .runs)
-      → runAt (sa1 t m ds .runs) j .row .0 ≡ runAt (sa1 t m ds .runs) k .row .0 → runAt (sa1 t m ds .runs) j .duty ≡ runAt (sa1 t m ds .runs) k .duty
-      → stop (runAt (sa1 t m ds .runs) j) ≡ runAt (sa1 t m ds .runs) k .first → ⊥
+  pub sa1-not-joined : NotJoined (sa1 t m ds .runs)
   sa1-not-joined j k a b r d s =
-      by-cases (ltb j k) (λ p. omega (arith, run-follows j k (ltb-true j k p) b .split d))
-      (λ p. by-cases (ltb k j) (λ q. omega (arith, run-follows k j (ltb-true k j q) a .split (sym d)))
-      (λ q. omega (arith, run-laid j a .some-units, ap (λ (i : ℕ). runAt (sa1 t m ds .runs) i .first) (le-antisymm (ltb-false k j q) (ltb-false j k p)))))
+      by-order j k (λ l. omega (arith, run-follows j k l b .split d)) (λ l. omega (arith, run-follows k j l a .split (sym d)))
+      (λ e. omega (arith, run-laid j a .some-units, ap (λ (i : ℕ). runAt (sa1 t m ds .runs) i .first) e))
 
   -- rule 16
   pub sa1-apart-of-duty : (j k : ℕ) → j < k → k < length (sa1 t m ds .runs) → runAt (sa1 t m ds .runs) j .duty ≡ runAt (sa1 t m ds .runs) k .duty

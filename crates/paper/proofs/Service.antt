@@ -57,12 +57,6 @@ engines-unit t l i b u =
     row-sum (link t) (t .engines) (rows-end t (l .closed)) b (λ r. one-if (same (heldIn (t .runs) (row r) u) (By i)))
     ∙ rows-unit (t .engines) (t .runs) (l .apart-in-row) (l .rows-below) i u
 
--- .. and in the whole block on as many units as its runs have
-pub block-units : (t : Table) → Serving t → (i b : ℕ) → sumTo (t .ticks) (λ u. sumTo (t .engines) (λ e. one-if (same (heldIn (t .runs) (rowAt (link t) b (engine e)) u) (By i)))) ≡ unitsOf (t .runs) i
-block-units t l i b =
-    sum-ext (t .ticks) (λ u. sumTo (t .engines) (λ e. one-if (same (heldIn (t .runs) (rowAt (link t) b (engine e)) u) (By i)))) (onUnit (t .runs) i) (λ u h. engines-unit t l i b u)
-    ∙ units-block (t .ticks) (t .runs) (l .inside) i
-
 -- the same of a tick
 pub given-unit : (t : Table) → Serving t → (i k : ℕ) → given (t .engines) (walk t) i k ≡ onUnit (t .runs) i (k % t .ticks)
 unfolding given walk

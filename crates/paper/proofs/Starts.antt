@@ -6,7 +6,7 @@
 -- Assumes nothing.
 use Prim.Native.Nat.{ℕ, zero, suc, _+_, _-_, _*_, _≤_, _<_}
 use mathlib.Core.Path.{_≡_, refl, sym, ap, _∙_}
-use mathlib.Core.Bool.{true, false, _&&_}
+use mathlib.Core.Bool.{Bool, true, false, _&&_}
 use mathlib.Core.List.{List}
 use native.Mathlib.Omega.{arith}
 use lib.Dec.{eqb}
@@ -14,7 +14,7 @@ use lib.ListN.{length}
 use borrow.Author.Tests.{eqb-true, eqb-false, eq-eqb, ne-eqb}
 use Rattle.laws.specs.Choice.{pick, one-if}
 use Rattle.laws.specs.Sum.{sumTo}
-use Rattle.laws.proofs.Cases.{by-cases, lt-or-le, both-true}
+use Rattle.laws.proofs.Cases.{by-cases, lt-or-le, refuted, and-left, and-right}
 use Rattle.laws.proofs.Sum.{sum-ext, sum-first, sum-plus, sum-const, sum-swap, sum-zero, sum-only, count-cell}
 use Rattle.paper.specs.declared.Run.{Run}
 use Rattle.paper.specs.declared.Held.the-variants.{By}
@@ -22,17 +22,19 @@ use Rattle.paper.specs.Words.{row, stop, Table, runAt, heldIn, same, bus
 use Rattle.paper.specs.Schedule.{loads}
 use Rattle.paper.specs.Bytes.{Width}
 use Rattle.paper.specs.Statements.{Ranged, Meets, Has}
-use Rattle.paper.proofs.Holding.{Covering, RowsApart, has-covers, covers-has, covers-row, held-cases, held-by, covering-one}
+use Rattle.paper.proofs.Rules.{NotJoined}
+use Rattle.paper.proofs.Holding.{Covering, covering-other, RowsApart, has-covers, covers-has, covers-row, held-cases, held-by, covering-one}
+use Rattle.paper.proofs.Units.{RowsBelow, Inside}
 use Rattle.paper.proofs.Links.{Closed, closed}
 use Rattle.paper.proofs.Loads.{fresh, opening, inside, later, carried, loads-none, loads-first, loads-closed, later-carried}
 
 -- what the count needs of the runs: each has units, inside the block and on a row of the table; 14; 15
 pub record Laid (m t : ℕ) (xs : List Run) : Type 0 where
-  pub row-below : (k : ℕ) → k < length xs → runAt xs k .row .0 < m
+  pub row-below : RowsBelow m xs
   pub some-units : (k : ℕ) → k < length xs → 1 ≤ runAt xs k .length
-  pub inside-block : (k : ℕ) → k < length xs → stop (runAt xs k) ≤ t
+  pub inside-block : Inside t xs
   pub apart : RowsApart xs
-  pub not-joined : (j k : ℕ) → j < length xs → k < length xs → runAt xs j .row .0 ≡ runAt xs k .row .0 → runAt xs j .duty ≡ runAt xs k .duty → stop (runAt xs j) ≡ runAt xs k .first → ⊥
+  pub not-joined : NotJoined xs
 
 -- a table in range that meets the rules has its runs laid so
 pub laid : (w : Width) (t : Table) → Ranged w t → Meets t → Laid (t .engines) (t .ticks) (t .runs)
@@ -44,35 +46,38 @@ laid w t g o = record {
   not-joined = o .not-joined;
 }
 
--- how many runs start at unit u of row r
+-- run x starts at unit u of row r
+abbrev startsAt : Run → ℕ → ℕ → Bool
+startsAt x r u = eqb (x .row .0) r && eqb (x .first) u
+
+-- how many runs do
 unfoldable pub starts : List Run → ℕ → ℕ → ℕ
-starts xs r u = sumTo (length xs) (λ k. one-if (eqb (runAt xs k .row .0) r && eqb (runAt xs k .first) u))
+starts xs r u = sumTo (length xs) (λ k. one-if (startsAt (runAt xs k) r u))
 
 module _ (m t : ℕ) (xs : List Run) (ok : Laid m t xs) where
   -- a run covers the unit where it starts
-  starts-covers : (r u k : ℕ) → k < length xs → eqb (runAt xs k .row .0) r && eqb (runAt xs k .first) u ≡ true → Covering xs (row r) u k
+  starts-covers : (r u k : ℕ) → k < length xs → startsAt (runAt xs k) r u ≡ true → Covering xs (row r) u k
   starts-covers r u k h p =
-      let q = both-true (eqb (runAt xs k .row .0) r) (eqb (runAt xs k .first) u) p in
-      let z : runAt xs k .first ≡ u = eqb-true (runAt xs k .first) u (q .1) in
+      let of-row = eqb (runAt xs k .row .0) r in
+      let z : runAt xs k .first ≡ u = eqb-true (runAt xs k .first) u (and-right of-row (eqb (runAt xs k .first) u) p) in
       record {
         below = h;
-        covering = has-covers (runAt xs k) (row r) u (eqb-true (runAt xs k .row .0) r (q .0)) (omega (arith, ok .some-units k h));
+        covering = has-covers (runAt xs k) (row r) u (eqb-true (runAt xs k .row .0) r (and-left of-row (eqb (runAt xs k .first) u) p)) (omega (arith, ok .some-units k h));
       }
 
   -- at a unit that no run covers none starts
   starts-none : (r u : ℕ) → ((k : ℕ) → Covering xs (row r) u k → ⊥) → starts xs r u ≡ 0
   unfolding starts
   starts-none r u n =
-      sum-zero (length xs) (λ k. one-if (eqb (runAt xs k .row .0) r && eqb (runAt xs k .first) u))
-      (λ k h. by-cases (eqb (runAt xs k .row .0) r && eqb (runAt xs k .first) u) (λ p. absurd (n k (starts-covers r u k h p))) (λ p. rw p))
+      sum-zero (length xs) (λ k. one-if (startsAt (runAt xs k) r u))
+      (λ k h. rw (refuted (startsAt (runAt xs k) r u) (λ p. n k (starts-covers r u k h p))))
 
   -- at a unit that run k covers none or run k starts
   starts-one : (r u k : ℕ) → Covering xs (row r) u k → starts xs r u ≡ one-if (eqb (runAt xs k .first) u)
   unfolding starts
   starts-one r u k c =
-      sum-only (length xs) k (λ j. one-if (eqb (runAt xs j .row .0) r && eqb (runAt xs j .first) u)) (c .below)
-      (λ j h d. by-cases (eqb (runAt xs j .row .0) r && eqb (runAt xs j .first) u)
-      (λ p. absurd (d (covering-one xs (row r) u (ok .apart) j k (starts-covers r u j h p) c))) (λ p. rw p))
+      sum-only (length xs) k (λ j. one-if (startsAt (runAt xs j) r u)) (c .below)
+      (λ j h d. rw (refuted (startsAt (runAt xs j) r u) (λ p. d (covering-one xs (row r) u (ok .apart) j k (starts-covers r u j h p) c))))
       ∙ rw (eq-eqb (runAt xs k .row .0) r (covers-row (runAt xs k) (row r) u (c .covering)))
 
   -- unit 0 is busy exactly where a run starts there
@@ -95,7 +100,7 @@ module _ (m t : ℕ) (xs : List Run) (ok : Laid m t xs) where
       stops j d =
           let has : Has (runAt xs j) u = covers-has (runAt xs j) (row r) u (d .covering) in
           lt-or-le (suc u) (stop (runAt xs j))
-          (λ l. let f : Covering xs (row r) (suc u) j = record { below = d .below; covering = has-covers (runAt xs j) (row r) (suc u) (covers-row (runAt xs j) (row r) u (d .covering)) (omega arith) } in
+          (λ l. let f = covering-other (suc u) d (omega arith) in
           absurd (omega (arith, ap (λ i. runAt xs i .first) (covering-one xs (row r) (suc u) (ok .apart) j k f c)))) (λ l. l)
 
       joined : (j : ℕ) → Covering xs (row r) u j → runAt xs j .duty ≡ runAt xs k .duty → ⊥
@@ -110,8 +115,7 @@ module _ (m t : ℕ) (xs : List Run) (ok : Laid m t xs) where
   on-same r u k c n =
       let has : Has (runAt xs k) (suc u) = covers-has (runAt xs k) (row r) (suc u) (c .covering) in
       let low : runAt xs k .first ≤ u = lt-or-le u (runAt xs k .first) (λ l. absurd (n (omega arith))) (λ l. l) in
-      let d : Covering xs (row r) u k = record { below = c .below; covering = has-covers (runAt xs k) (row r) u (covers-row (runAt xs k) (row r) (suc u) (c .covering)) (omega arith) } in
-      ap (same (By (runAt xs k .duty))) (held-by xs (row r) u (ok .apart) k d) ∙ eq-eqb (runAt xs k .duty) (runAt xs k .duty) refl
+      ap (same (By (runAt xs k .duty))) (held-by xs (row r) u (ok .apart) k (covering-other u c (omega arith))) ∙ eq-eqb (runAt xs k .duty) (runAt xs k .duty) refl
 
   -- a unit after the first is a load exactly where a run starts there
   fresh-starts : (r u : ℕ) → fresh (heldIn xs (row r) (suc u)) (heldIn xs (row r) u) ≡ starts xs r (suc u)
@@ -128,9 +132,9 @@ module _ (m t : ℕ) (xs : List Run) (ok : Laid m t xs) where
   all-starts : sumTo m (λ r. sumTo t (starts xs r)) ≡ length xs
   unfolding starts
   all-starts =
-      sum-ext m (λ r. sumTo t (starts xs r)) (λ r. sumTo (length xs) (λ k. sumTo t (λ u. one-if (eqb (runAt xs k .row .0) r && eqb (runAt xs k .first) u))))
-      (λ r h. sum-swap t (length xs) (λ u k. one-if (eqb (runAt xs k .row .0) r && eqb (runAt xs k .first) u)))
-      ∙ sum-swap m (length xs) (λ r k. sumTo t (λ u. one-if (eqb (runAt xs k .row .0) r && eqb (runAt xs k .first) u)))
+      sum-ext m (λ r. sumTo t (starts xs r)) (λ r. sumTo (length xs) (λ k. sumTo t (λ u. one-if (startsAt (runAt xs k) r u))))
+      (λ r h. sum-swap t (length xs) (λ u k. one-if (startsAt (runAt xs k) r u)))
+      ∙ sum-swap m (length xs) (λ r k. sumTo t (λ u. one-if (startsAt (runAt xs k) r u)))
       ∙ sum-ext (length xs) _ (λ k. 1)
       (λ k h. count-cell m t (runAt xs k .row .0) (runAt xs k .first) (ok .row-below k h) (omega (arith, ok .some-units k h, ok .inside-block k h)))
       ∙ sum-const (length xs) 1 ∙ omega arith

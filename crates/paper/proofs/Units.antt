@@ -4,17 +4,15 @@
 -- Assumes nothing.
 use Prim.Native.Nat.{ℕ, zero, suc, _+_, _≤_, _<_}
 use mathlib.Core.Path.{_≡_, refl, sym, ap, _∙_}
-use mathlib.Core.Bool.{Bool, true, false, _&&_}
+use mathlib.Core.Bool.{Bool, true, false, _&&_, and-true, and-false}
 use mathlib.Core.List.{List, [], _∷_}
-use native.Mathlib.Nat.{le-antisymm}
 use native.Mathlib.Omega.{arith}
 use lib.Dec.{leb, ltb, eqb}
 use lib.ListN.{length}
 use borrow.Author.Tests.{ltb-true, leb-true, eqb-true, eq-eqb, ne-eqb}
 use Rattle.laws.specs.Choice.{pick, one-if}
 use Rattle.laws.specs.Sum.{sumTo}
-use Rattle.laws.proofs.Cases.{by-cases, lt-or-le, and-yes, and-no}
-use Rattle.laws.proofs.Lists.{and-left, and-right}
+use Rattle.laws.proofs.Cases.{by-cases, by-order, refuted, and-left, and-right}
 use Rattle.laws.proofs.Sum.{sum-ext, sum-plus, sum-zero, sum-only, count-stretch}
 use Rattle.paper.specs.declared.Row.{Row}
 use Rattle.paper.specs.declared.Run.{Run}
@@ -64,7 +62,7 @@ counts x i r u = one-if (eqb (x .duty) i && covers x (row r) u)
 counts-rows : (m : ℕ) (x : Run) (i u : ℕ) → x .row .0 < m → sumTo m (λ r. counts x i r u) ≡ one-if (serves x i u)
 unfolding covers
 counts-rows m x i u h =
-    sum-only m (x .row .0) (λ r. counts x i r u) h (λ r l n. rw (ne-eqb (x .row .0) r (λ e. n (sym e)), and-no (eqb (x .duty) i)))
+    sum-only m (x .row .0) (λ r. counts x i r u) h (λ r l n. rw (ne-eqb (x .row .0) r (λ e. n (sym e)), and-false (eqb (x .duty) i)))
     ∙ rw (eq-eqb (x .row .0) (x .row .0) refl)
 
 -- over all units: the run's length where it is the duty's
@@ -80,14 +78,13 @@ same-more : (x : Run) (xs : List Run) → RowsApart (x ∷ xs) → (i r u : ℕ)
 same-more x xs a i r u =
     by-cases (covers x (row r) u)
     (λ h. let idle = held-idle xs (row r) u (λ k l. covers-none h k l) in
-    rw (held-yes x xs (row r) u h, idle, same-by (x .duty) i, idle-same i, h, and-yes (eqb (x .duty) i)) (omega arith))
-    (λ h. rw (held-no x xs (row r) u h, h, and-no (eqb (x .duty) i)) (omega arith))
+    rw (held-yes x xs (row r) u h, idle, same-by (x .duty) i, idle-same i, h, and-true (eqb (x .duty) i)) (omega arith))
+    (λ h. rw (held-no x xs (row r) u h, h, and-false (eqb (x .duty) i)) (omega arith))
   where
     covers-none : covers x (row r) u ≡ true → (k : ℕ) → k < length xs → covers (runAt xs k) (row r) u ≡ false
     covers-none h k l =
-        by-cases (covers (runAt xs k) (row r) u)
-        (λ q. absurd (a 0 (suc k) (omega arith) (omega arith) (covers-row x (row r) u h ∙ sym (covers-row (runAt xs k) (row r) u q)) u (covers-has x (row r) u h) (covers-has (runAt xs k) (row r) u q)))
-        (λ q. q)
+        refuted (covers (runAt xs k) (row r) u)
+        (λ q. a 0 (suc k) (omega arith) (omega arith) (covers-row x (row r) u h ∙ sym (covers-row (runAt xs k) (row r) u q)) u (covers-has x (row r) u h) (covers-has (runAt xs k) (row r) u q))
 
 -- on each unit a duty holds as many rows as it has runs there
 pub rows-unit : (m : ℕ) (xs : List Run) → RowsApart xs → RowsBelow m xs → (i u : ℕ) → sumTo m (λ r. one-if (same (heldIn xs (row r) u) (By i))) ≡ onUnit xs i u
@@ -135,10 +132,8 @@ unit-once (x ∷ xs) a i u =
   where
     none : (k : ℕ) → k < length xs → (x .duty ≡ i) × Has x u → serves (runAt xs k) i u ≡ false
     none k l c =
-        by-cases (serves (runAt xs k) i u)
-        (λ q. let d = serves-has (runAt xs k) i u q in
-        absurd (a 0 (suc k) (omega arith) (omega arith) (c .0 ∙ sym (d .0)) u (c .1) (d .1)))
-        (λ q. q)
+        refuted (serves (runAt xs k) i u)
+        (λ q. let d = serves-has (runAt xs k) i u q in a 0 (suc k) (omega arith) (omega arith) (c .0 ∙ sym (d .0)) u (c .1) (d .1))
 
 -- .. so a duty holds a unit on one row only
 pub one-row : (xs : List Run) → DutiesApart xs → (r s : Row) (u i : ℕ) → heldIn xs r u ≡ By i → heldIn xs s u ≡ By i → r .0 ≡ s .0
@@ -151,6 +146,5 @@ one-row xs a r s u i p q =
     go j k c d e =
         let f = covers-has (runAt xs j) r u (c .covering) in
         let g = covers-has (runAt xs k) s u (d .covering) in
-        lt-or-le j k (λ l. absurd (a j k l (d .below) e u f g))
-        (λ l. lt-or-le k j (λ m. absurd (a k j m (c .below) (sym e) u g f))
-        (λ m. sym (covers-row (runAt xs j) r u (c .covering)) ∙ ap (λ (n : ℕ). runAt xs n .row .0) (le-antisymm m l) ∙ covers-row (runAt xs k) s u (d .covering)))
+        by-order j k (λ l. absurd (a j k l (d .below) e u f g)) (λ l. absurd (a k j l (c .below) (sym e) u g f))
+        (λ p. sym (covers-row (runAt xs j) r u (c .covering)) ∙ ap (λ (n : ℕ). runAt xs n .row .0) p ∙ covers-row (runAt xs k) s u (d .covering))

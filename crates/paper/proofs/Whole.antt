@@ -5,13 +5,13 @@ use Prim.Native.Nat.{ℕ, _*_, _/_, _<_, _∣_}
 use mathlib.Core.Path.{_≡_}
 use mathlib.Core.Bool.{true}
 use mathlib.Core.Logic.{_↔_}
-use mathlib.Core.List.{List, map}
+use mathlib.Core.List.{List}
 use native.Mathlib.Nat.{mul-div-cancel', mul-dvd-mul-left, dvd-of-mul-dvd-mul-left, pos-of-dvd-of-pos}
-use lib.ListN.{length, getD, length-map, List·getD-map}
-use Rattle.laws.proofs.Divisor.{gcdOf-divides}
+use lib.ListN.{length}
 use Rattle.paper.specs.declared.Duty.{Duty}
-use Rattle.paper.specs.Words.{duty, dutyAt, blockLengthOf, whole}
-use Rattle.paper.proofs.Rules.{whole-divides, divides-whole}
+use Rattle.paper.specs.Words.{dutyAt, blockLengthOf, whole}
+use Rattle.paper.proofs.Rules.{whole-decides}
+use Rattle.paper.proofs.Accepted.{block-divides}
 
 -- for every T that divides the period
 pub whole-iff : (t : ℕ) (x : Duty) → 0 < t → t ∣ x .period → (whole t x ≡ true) ↔ (x .period / t ∣ x .service)
@@ -21,17 +21,10 @@ whole-iff t x h d = (there, back)
     split = mul-div-cancel' t d
 
     there : whole t x ≡ true → x .period / t ∣ x .service
-    there w = dvd-of-mul-dvd-mul-left _ h (rw split (whole-divides t x w))
+    there w = dvd-of-mul-dvd-mul-left _ h (rw split (whole-decides t x .0 w))
 
     back : x .period / t ∣ x .service → whole t x ≡ true
-    back q = divides-whole t x (rw split at (mul-dvd-mul-left _ t q))
-
--- the block length divides every period
-pub block-divides : (ds : List Duty) (i : ℕ) → i < length ds → blockLengthOf ds ∣ dutyAt ds i .period
-unfolding blockLengthOf
-block-divides ds i h =
-    let d = gcdOf-divides (map (λ (x : Duty). x .period) ds) i (rw (length-map ds (λ (x : Duty). x .period)) h) in
-    rw (List·getD-map (λ (x : Duty). x .period) ds i (duty 0 0)) at d
+    back q = whole-decides t x .1 (rw split at (mul-dvd-mul-left _ t q))
 
 -- "The slice N of a duty is T·C/D. It must be whole, that is, D/T divides C."
 pub whole-duty : (ds : List Duty) (i : ℕ) → i < length ds → 0 < dutyAt ds i .period

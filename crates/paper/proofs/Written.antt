@@ -2,8 +2,8 @@
 -- after the last run is of another kind, so no more runs are read, and nothing follows the end record.
 -- Assumes nothing.
 use Prim.Native.Nat.{ℕ, _+_, _^_, _<_}
-use mathlib.Core.Path.{_≡_, refl, sym, ap}
-use mathlib.Core.Bool.{Bool, true, false, not, _&&_}
+use mathlib.Core.Path.{_≡_, sym, ap}
+use mathlib.Core.Bool.{Bool, true, false, not, and-false}
 use native.Mathlib.Omega.{arith}
 use lib.Dec.{leb}
 use lib.ListN.{length}
@@ -15,10 +15,11 @@ use Rattle.laws.proofs.Search.{first-is, first-none}
 use Rattle.laws.proofs.Parts.{holds-first}
 use Rattle.paper.specs.Words.{stop, Table, dutyAt, runAt}
 use Rattle.paper.specs.Outcome.{answer}
-use Rattle.paper.specs.Bytes.{Width, small, mostTicks, endBytes, encode, endLength, dutyPlace, runPlace, runLength, stands, ticksIn, enginesIn, dutiesIn, headGood, dutyGood, runGood, endGood, badDuty, goodRuns, afterRuns, afterHead, parse}
+use Rattle.paper.specs.Bytes.{Width, small, mostTicks, endBytes, encode, endLength, dutyPlace, runPlace, runLength, stands, headGood, dutyGood, runGood, endGood, badDuty, goodRuns, afterRuns, afterHead, parse}
 use Rattle.paper.specs.Statements.{Ranged}
 use Rattle.paper.proofs.Bytes.{length-encode, head-stands, duty-stands, run-stands, end-stands}
-use Rattle.paper.proofs.Fields.{InFields, head-kind, head-ticks, head-engines, head-duties, duty-kind, duty-read, run-kind, run-read, end-kind, end-read, table-read}
+use Rattle.paper.proofs.Fields.{InFields, head-kind, ticks-read, engines-read, duties-read, duty-kind, duty-read, run-kind, run-read, end-kind, end-read, table-read}
+use Rattle.paper.proofs.Passed.{duty-decides}
 
 -- a width whose ranges fit its fields, and whose runs are not taken for the end
 pub record Sound (w : Width) : Type 0 where
@@ -52,27 +53,15 @@ module _ (w : Width) (t : Table) (s : Sound w) (r : Ranged w t) where
   fits : InFields w t
   fits = ranged-fits w t s r
 
-  -- T in the bytes
-  ticks-is : ticksIn (encode w t) ≡ t .ticks
-  ticks-is = head-ticks w t (encode w t) (head-stands w t) (fits .head)
-
-  -- the engines in the bytes
-  engines-is : enginesIn (encode w t) ≡ t .engines
-  engines-is = head-engines w t (encode w t) (head-stands w t) (fits .head)
-
-  -- the number of duties in the bytes
-  duties-is : dutiesIn w (encode w t) ≡ length (t .duties)
-  duties-is = head-duties w t (encode w t) (head-stands w t) (fits .head)
-
   -- the head passes its test
   head-passes : headGood w (encode w t) ≡ true
   unfolding headGood
   head-passes =
       rw (
         head-kind w t (encode w t) (head-stands w t),
-        ticks-is,
-        engines-is,
-        duties-is,
+        ticks-read w t fits,
+        engines-read w t fits,
+        duties-read w t fits,
         le-leb 1 (t .ticks) (r .ticks-least),
         le-leb (t .ticks) mostTicks (r .ticks-most),
         le-leb 1 (t .engines) (r .engines-least),
@@ -86,15 +75,11 @@ module _ (w : Width) (t : Table) (s : Sound w) (r : Ranged w t) where
   unfolding dutyGood
   duty-passes d h =
       let x = dutyAt (t .duties) d in
-      let g = r .duty-ranged d h in
       rw (
         duty-kind x (encode w t) (dutyPlace w d) (duty-stands w t d h),
         duty-read x (encode w t) (dutyPlace w d) (duty-stands w t d h) (fits .each-duty d h),
-        le-leb 1 (x .period) (g .period-least),
-        le-leb (x .period) mostTicks (g .period-most),
-        le-leb 1 (x .service) (g .service-least),
-        le-leb (x .service) (x .period) (g .service-most),
       )
+      (duty-decides x .1 (r .duty-ranged d h))
 
   -- each run's
   run-passes : (k : ℕ) → k < length (t .runs) → runGood w (encode w t) (runPlace w (length (t .duties)) k) ≡ true
@@ -105,9 +90,9 @@ module _ (w : Width) (t : Table) (s : Sound w) (r : Ranged w t) where
       let g = r .run-ranged k h in
       rw (
         run-kind w x (encode w t) at (run-stands w t k h),
-        ticks-is,
-        engines-is,
-        duties-is,
+        ticks-read w t fits,
+        engines-read w t fits,
+        duties-read w t fits,
         run-read w x (encode w t) at (run-stands w t k h) (fits .each-run k h),
         lt-ltb (x .row .0) (t .engines) (g .row-below),
         lt-ltb (x .duty) (length (t .duties)) (g .duty-below),
@@ -129,11 +114,7 @@ module _ (w : Width) (t : Table) (s : Sound w) (r : Ranged w t) where
   end-no-run =
       let at = runPlace w (length (t .duties)) (length (t .runs)) in
       let four = holds-first 4 (digits 2 (length (t .runs))) (end-stands w t) in
-      rw (four, ne-eqb 4 (w .runKind) (λ e. s .end-other (sym e))) (no-and (leb (at + runLength w) (length (encode w t))) _)
-    where
-      no-and : (a b : Bool) → a && false && b ≡ false
-      no-and true b = refl
-      no-and false b = refl
+      rw (four, ne-eqb 4 (w .runKind) (λ e. s .end-other (sym e))) (rw (and-false (leb (at + runLength w) (length (encode w t)))))
 
   -- so no duty record is bad
   no-bad-duty : badDuty w (encode w t) (length (t .duties)) ≡ length (t .duties)
@@ -157,7 +138,7 @@ module _ (w : Width) (t : Table) (s : Sound w) (r : Ranged w t) where
       let k = length (t .runs) in
       rw (
         head-passes,
-        duties-is,
+        duties-read w t fits,
         no-bad-duty,
         le-ltb n n (omega arith),
         all-runs,

@@ -1,7 +1,6 @@
 -- What is asked of an accepted table: the direct question, the dispatcher, the count of loads. "The question, the dispatcher and the count
 -- take table bytes and judge them first."
 use Prim.Native.Nat.{ℕ, _+_, _-_, _/_, _^_}
-use mathlib.Core.Bool.{Bool}
 use mathlib.Core.List.{List}
 use lib.Dec.{ltb, eqb}
 use Rattle.laws.specs.Choice.{pick}

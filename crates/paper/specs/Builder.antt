@@ -1,6 +1,6 @@
 -- The builder: refusals 1 to 8 in their order. "The lowest number applies, save that 4 and 5 are looked for duty by duty, 4 before 5."
 use Prim.Native.Nat.{ℕ, _*_}
-use mathlib.Core.Bool.{Bool, not}
+use mathlib.Core.Bool.{not}
 use mathlib.Core.List.{List}
 use lib.Dec.{ltb, eqb}
 use lib.ListN.{length, getD}

@@ -1,15 +1,14 @@
 -- Rules 11 to 17 of a table, each with the place that it reports, and the same rules as plain statements.
-use Prim.Native.Nat.{ℕ, zero, suc, _+_, _≤_, _<_}
-use mathlib.Core.Path.{_≡_}
-use mathlib.Core.Bool.{Bool, true, false, not, _&&_}
+use Prim.Native.Nat.{ℕ, zero, suc, _+_}
+use mathlib.Core.Bool.{Bool, false, not, _&&_}
 use mathlib.Core.List.{List, [], _∷_}
-use lib.Dec.{leb, ltb, eqb}
+use lib.Dec.{ltb, eqb}
 use lib.ListN.{length}
 use Rattle.laws.specs.Choice.{pick}
 use Rattle.laws.specs.Search.{first, any}
 use Rattle.paper.specs.declared.Run.{Run}
 use Rattle.paper.specs.declared.Reading.{Reading}
-use Rattle.paper.specs.Words.{stop, slice, blockLengthOf, Table, dutyAt, runAt, whole}
+use Rattle.paper.specs.Words.{stop, slice, blockLengthOf, Table, dutyAt, runAt}
 use Rattle.paper.specs.Outcome.{Outcome, refused, answer, andThen}
 use Rattle.paper.specs.Bytes.{small, parse}
 use Rattle.paper.specs.Builder.{badSlice}

@@ -1,7 +1,7 @@
 -- What the builder leaves in a buffer that has room for every table: the plan's bytes, which the judge accepts and reads as the plan, or
 -- nothing and the plan's refusal.
 -- Assumes nothing.
-use Prim.Native.Nat.{ℕ, _^_, _≤_, _<_}
+use Prim.Native.Nat.{ℕ, _≤_}
 use mathlib.Core.Path.{_≡_, refl, sym, ap, subst, _∙_}
 use mathlib.Core.List.{List, [], _∷_}
 use native.Mathlib.Omega.{arith}
@@ -14,13 +14,11 @@ use Rattle.paper.specs.Rules.{accepted}
 use Rattle.paper.specs.Text.{printLine, refusedWord, printed}
 use Rattle.paper.proofs.Bytes.{length-encode}
 use Rattle.paper.proofs.Planned.{planned-ranged, planned-accepted}
+use Rattle.builder.specs.declared.Built.{Built}
+use Rattle.builder.specs.declared.Built.the-variants.{Length, Refused}
+use Rattle.builder.specs.Built.{builtAs}
 use Rattle.print_lines.specs.Puts.{Puts}
-use Rattle.print_lines.proofs.Line.{line-most}
 use Rattle.plan_text.proofs.Fitting.{fitted-room, front-is}
-
--- a refusal's line has at most 50 bytes
-pub refused-most : (n p : ℕ) → n < 2 ^ 64 → p < 2 ^ 64 → length (printLine refusedWord (n ∷ p ∷ [])) ≤ 50
-refused-most n p h l = omega (arith, line-most 19 refusedWord (n ∷ p ∷ []) (omega arith, (omega arith, tt)))
 
 -- what is printed by another name
 pub puts-as : {W W′ xs : List ℕ} {n : ℕ} (l : List ℕ) → W ≡ W′ → Puts W l xs n → Puts W′ l xs n
@@ -44,16 +42,16 @@ module _ (m : ℕ) (ss ps : List ℕ) where
   build-is (answer t) e = rw e (plan-fits t e)
 
   -- a refusal is the plan's
-  pub build-refused : (n p : ℕ) → refused n p ≡ lengthOf (build m ss ps 2048) → plan m ss ps ≡ refused n p
-  build-refused n p h = go (plan m ss ps) refl (h ∙ ap lengthOf (build-is (plan m ss ps) refl))
+  pub build-refused : (n p : ℕ) {r : Built} → r ≡ Refused n p → builtAs r ≡ lengthOf (build m ss ps 2048) → plan m ss ps ≡ refused n p
+  build-refused n p told h = go (plan m ss ps) refl (sym (ap builtAs told) ∙ h ∙ ap lengthOf (build-is (plan m ss ps) refl))
     where
       go : (o : Outcome Table) → plan m ss ps ≡ o → refused n p ≡ lengthOf (andThen o (λ t. answer (encode small t))) → plan m ss ps ≡ refused n p
       go (refused n′ p′) e q = cc
       go (answer t) e q = let z : _≡_ {A = ℕ} 0 1 = cc in absurd (omega arith)
 
   -- what is built has room
-  pub build-size : (size : ℕ) → answer size ≡ lengthOf (build m ss ps 2048) → size ≤ 2048
-  build-size size h = go (plan m ss ps) refl (h ∙ ap lengthOf (build-is (plan m ss ps) refl))
+  pub build-size : (size : ℕ) {r : Built} → r ≡ Length size → builtAs r ≡ lengthOf (build m ss ps 2048) → size ≤ 2048
+  build-size size told h = go (plan m ss ps) refl (sym (ap builtAs told) ∙ h ∙ ap lengthOf (build-is (plan m ss ps) refl))
     where
       go : (o : Outcome Table) → plan m ss ps ≡ o → answer size ≡ lengthOf (andThen o (λ t. answer (encode small t))) → size ≤ 2048
       go (refused n p) e q = let z : _≡_ {A = ℕ} 0 1 = cc in absurd (omega arith)
@@ -63,10 +61,10 @@ module _ (m : ℕ) (ss ps : List ℕ) where
           omega (arith, length-encode small t, g .duties-most, g .runs-most)
 
   -- what is built, cut to the length that is told, is accepted as the plan
-  pub build-printed : (size : ℕ) (l xs : List ℕ) → answer size ≡ lengthOf (build m ss ps 2048) → xs ≡ leaves (build m ss ps 2048) l
+  pub build-printed : (size : ℕ) {r : Built} (l xs : List ℕ) → r ≡ Length size → builtAs r ≡ lengthOf (build m ss ps 2048) → xs ≡ leaves (build m ss ps 2048) l
       → printed (accepted (take size xs)) ≡ printed (plan m ss ps)
-  build-printed size l xs h w =
-      go (plan m ss ps) refl (h ∙ ap lengthOf (build-is (plan m ss ps) refl)) (w ∙ ap (λ o. leaves o l) (build-is (plan m ss ps) refl))
+  build-printed size l xs told h w =
+      go (plan m ss ps) refl (sym (ap builtAs told) ∙ h ∙ ap lengthOf (build-is (plan m ss ps) refl)) (w ∙ ap (λ o. leaves o l) (build-is (plan m ss ps) refl))
     where
       go : (o : Outcome Table) → plan m ss ps ≡ o → answer size ≡ lengthOf (andThen o (λ t. answer (encode small t)))
           → xs ≡ leaves (andThen o (λ t. answer (encode small t))) l → printed (accepted (take size xs)) ≡ printed (plan m ss ps)

@@ -1,40 +1,34 @@
 // The plan program, from what it reads to what it prints.
-ghost use mathlib.Core.List.{[], _∷_};
 ghost use Prim.Native.Nat.{_≤_};
 ghost use lib.ListN.{length, take};
 ghost use Rattle.paper.specs.Builder.{plan};
 ghost use Rattle.paper.specs.Rules.{accepted};
-ghost use Rattle.paper.specs.Text.{printLine, refusedWord, printed, program};
+ghost use Rattle.paper.specs.Text.{printed, program};
 ghost use Rattle.print_lines.specs.Puts.{Puts};
 ghost use Rattle.plan_run.specs.Sized.{Sized};
 use builder::Built;
 use builder::build;
-use judge::judge;
 use judge::number_of;
 use judge::place_of;
+use judge::rule_on;
 use paper::Judged;
 use plan_input::Input;
 use plan_input::Verdict;
 use plan_input::read_input;
+use plan_lines::put_refused;
 use plan_text::put_text;
-use print_lines::put_line;
-
-// A refusal: number, place.
-fn put_refused(out: &mut [u8], number: u32, place: usize) -> usize
-    requires { ⌜ 50 ≤ length (now out) ⌝ }
-    ensures { λ r. ⌜ Puts (printLine refusedWord (number ∷ place ∷ [])) (now (out .entry)) (now (out .exit)) r ⌝ }
-{
-    let numbers = [number as u64, place as u64];
-    put_line(out, b"refused", &numbers)
-}
 
 // The plan in table bytes, or their refusal.
 fn put_plan(out: &mut [u8], table: &[u8]) -> usize
     requires { ⌜ 8192 ≤ length (now out) ⌝ }
     ensures { λ r. ⌜ Puts (printed (accepted (now (table .entry)))) (now (out .entry)) (now (out .exit)) r ⌝ }
 {
-    match judge(table) {
-        Judged::Accepted(rd) => put_text(out, table, rd),
+    let ruling = rule_on(table);
+    let starts = ruling.starts;
+    let ends = ruling.ends;
+    let judged = ruling.judged;
+    match judged {
+        Judged::Accepted(rd) => put_text(out, table, rd, &starts, &ends),
         Judged::Bad(fault) => put_refused(out, number_of(fault), place_of(fault)),
     }
 }

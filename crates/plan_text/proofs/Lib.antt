@@ -1,4 +1,3 @@
-pub mod ChainLines
-pub mod PlanText
 pub mod Fitting
+mod Rotating
 pub mod Unique

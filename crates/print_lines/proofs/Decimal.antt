@@ -4,7 +4,7 @@
 use Prim.Native.Nat.{ℕ, zero, suc, _+_, _-_, _/_, _%_, _^_, _≤_, _<_}
 use mathlib.Core.Path.{_≡_, refl, sym, ap, _∙_}
 use mathlib.Core.List.{List, [], _∷_, _++_, append-assoc}
-use native.Mathlib.Nat.{pow-suc, mod-eq-of-lt, div-lt-iff-lt-mul}
+use native.Mathlib.Nat.{mod-eq-of-lt}
 use native.Mathlib.Numerals.{add-one}
 use native.Mathlib.Omega.{arith}
 use lib.ListN.{length, drop, set, length-append, length-set}
@@ -12,6 +12,7 @@ use lib.Seq.{drop-cons, getD-set-same, drop-set-lt}
 use borrow.Author.Tests.{lt-ltb, le-ltb}
 use Rattle.laws.specs.Lists.{over}
 use Rattle.laws.proofs.Cases.{lt-or-le}
+use Rattle.laws.proofs.Digits.{quotient-below}
 use Rattle.paper.specs.Text.{decimalIn, decimal}
 
 -- a number below 10 is one digit ..
@@ -31,10 +32,6 @@ count-one k n h = rw (decimal-one k n h)
 count-more : (k n : ℕ) → 10 ≤ n → length (decimalIn (suc k) n) ≡ length (decimalIn k (n / 10)) + 1
 count-more k n h = rw (decimal-more k n h) (length-append (decimalIn k (n / 10)) ((48 + n % 10) ∷ []))
 
--- there is a digit
-pub count-some : (k n : ℕ) → 1 ≤ length (decimalIn (suc k) n)
-count-some k n = lt-or-le n 10 (λ h. omega (arith, count-one k n h)) (λ h. omega (arith, count-more k n h))
-
 -- a number below 10^d has at most d digits, for d at least 1
 pub count-most : (d k n : ℕ) → n < 10 ^ suc d → length (decimalIn k n) ≤ suc d
 unfolding decimalIn
@@ -42,7 +39,7 @@ count-most d zero n h = omega arith
 count-most zero (suc k) n h = omega (arith, count-one k n (omega arith))
 count-most (suc d) (suc k) n h =
     lt-or-le n 10 (λ l. omega (arith, count-one k n l))
-    (λ l. omega (arith, count-more k n l, count-most d k (n / 10) (div-lt-iff-lt-mul {k = 10} (omega arith) .1 (rw pow-suc at h))))
+    (λ l. omega (arith, count-more k n l, count-most d k (n / 10) (quotient-below 10 (suc d) n (omega arith) h)))
 
 -- the last k digits of a number, with zeros in front where it has less
 unfoldable pub lastDigits : ℕ → ℕ → List ℕ
@@ -61,7 +58,7 @@ last-all (suc k) n h =
     lt-or-le n 10
     (λ l. let one : decimalIn (suc k) n ≡ (48 + n) ∷ [] = decimal-one k n l in
     rw (count-one k n l, one, mod-eq-of-lt l))
-    (λ l. rw (count-more k n l, add-one) (decimal-more k n l ∙ ap (λ (t : List ℕ). t ++ ((48 + n % 10) ∷ [])) (last-all k (n / 10) (div-lt-iff-lt-mul {k = 10} (omega arith) .1 (rw pow-suc at h)))))
+    (λ l. rw (count-more k n l, add-one) (decimal-more k n l ∙ ap (λ (t : List ℕ). t ++ ((48 + n % 10) ∷ [])) (last-all k (n / 10) (quotient-below 10 k n (omega arith) h))))
 
 -- ---- counting the digits by division
 
@@ -84,7 +81,7 @@ counting-more {n} {count} {left} c h = go (c .more) (c .most) (c .small) (c .is)
         record {
           more = k;
           most = omega arith;
-          small = div-lt-iff-lt-mul {k = 10} (omega arith) .1 (rw pow-suc at q);
+          small = quotient-below 10 (suc k) left (omega arith) q;
           is = omega (arith, count-more (suc k) left h);
         }
 

@@ -24,6 +24,11 @@ unfolding printLine
 line-length word numbers =
     length-append (word ++ flat spaced numbers) (10 ∷ []) ∙ ap (λ n. n + 1) (length-append word (flat spaced numbers))
 
+-- with room for the line there is room for its word and, behind that, for its n bytes of numbers and the line feed
+pub line-room : (word numbers : List ℕ) (room n : ℕ) → length (printLine word numbers) ≤ room → n ≡ length (flat spaced numbers)
+    → (length word + n < room) × (length word + n + 1 ≡ length (printLine word numbers))
+line-room word numbers room n h e = omega (arith, line-length word numbers)
+
 -- a line of numbers below 10^d
 pub line-most : (d : ℕ) (word numbers : List ℕ) → Each (λ n. n < 10 ^ suc d) numbers → length (printLine word numbers) ≤ length word + (2 + d) * length numbers + 1
 line-most d word numbers h = omega (arith, line-length word numbers, flat-most spaced (2 + d) numbers (each-map (λ n. n < 10 ^ suc d) (λ n. length (spaced n) ≤ 2 + d) (λ n l. omega (arith, count-most d 20 n l)) numbers h))

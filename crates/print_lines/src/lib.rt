@@ -7,7 +7,7 @@ ghost use Rattle.laws.specs.Lists.{flat};
 ghost use Rattle.paper.specs.Text.{decimal, printLine};
 ghost use Rattle.print_lines.specs.Puts.{Puts};
 ghost use Rattle.print_lines.specs.Spaced.{spaced};
-use records::put_bytes;
+use write_records::put_bytes;
 
 // How many digits a number has in decimal.
 fn digit_count(n: u64) -> usize

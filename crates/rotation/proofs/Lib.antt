@@ -1,4 +1,1 @@
-pub mod Reading
-pub mod Finding
-pub mod Edged
 pub mod Linking

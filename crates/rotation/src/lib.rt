@@ -1,131 +1,21 @@
-// Who holds a unit of a row, and the rotation: which row an engine runs in a block. All is read off table bytes whose
-// runs are in range.
+// The rotation: the chains of rows, and which row an engine runs in a block. It needs no more of a table than what holds the
+// first and the last unit of each row, as the tally tells it.
 ghost use mathlib.Core.Path.{_≡_};
-ghost use Prim.Native.Nat.{_+_, _≤_, _<_};
-ghost use Rattle.laws.specs.Choice.{pick};
-ghost use Rattle.laws.specs.Search.{first};
-ghost use Rattle.paper.specs.Words.{stop, covers, runAt, heldIn, row};
-ghost use Rattle.paper.specs.Bytes.{mostTicks};
-ghost use Rattle.paper.specs.Rotation.{firstOf, rowAt, link};
-ghost use Rattle.rotation.specs.Readable.{Readable, IsRun, runsIn, tableOf};
-ghost use Rattle.rotation.specs.Edges.{startsOf, endsOf, sameCode, linkOf, IsLast, round, carriesOf, carriedOf};
+ghost use Prim.Native.Nat.{_≤_, _<_};
+ghost use Rattle.paper.specs.Rotation.{firstOf, rowAt};
+ghost use Rattle.rotation.specs.Links.{sameCode, linkOf, IsLast, round};
 use paper::Engine;
-use paper::Held;
-use paper::Reading;
 use paper::Row;
-use paper::Run;
-use records::read_run;
-
-// ---- who holds a unit
-
-// Run k of the table.
-fn run_of(b: &[u8], rd: Reading, k: usize) -> Run
-    requires { ⌜ Readable (now b) rd × (k < rd .runs) ⌝ }
-    ensures { λ r. ⌜ IsRun (now (b .entry)) rd k r ⌝ }
-{
-    read_run(b, 7 + 9 * rd.duties as usize + 11 * k)
-}
-
-// Whether a run is on the row and has the unit.
-fn run_covers(x: Run, row: Row, unit: u32) -> bool
-    requires { ⌜ stop x ≤ mostTicks ⌝ }
-    ensures { λ r. ⌜ r ≡ covers x row unit ⌝ }
-{
-    (x.row.0 == row.0) & (x.first <= unit) & (unit < x.first + x.length)
-}
-
-// Whether run k is on the row and has the unit.
-fn covers_at(b: &[u8], rd: Reading, k: usize, row: Row, unit: u32) -> bool
-    requires { ⌜ Readable (now b) rd × (k < rd .runs) ⌝ }
-    ensures { λ r. ⌜ r ≡ covers (runAt (runsIn (now (b .entry)) rd) k) row unit ⌝ }
-{
-    run_covers(run_of(b, rd, k), row, unit)
-}
-
-// The run that holds a unit of a row: the first that does, or the number of runs where the unit is idle.
-pub fn find_run(b: &[u8], rd: Reading, row: Row, unit: u32) -> usize
-    requires { ⌜ Readable (now b) rd ⌝ }
-    ensures { λ r. ⌜ r ≡ first (λ k. covers (runAt (runsIn (now (b .entry)) rd) k) row unit) (rd .runs) ⌝ }
-{
-    let idle = rd.runs as usize;
-    let mut k = 0;
-    let found = loop {
-        if idle <= k {
-            break idle;
-        }
-        if covers_at(b, rd, k, row, unit) {
-            break k;
-        }
-        k += 1;
-    };
-    found
-}
-
-// What holds a unit of a row.
-pub fn held(b: &[u8], rd: Reading, row: Row, unit: u32) -> Held
-    requires { ⌜ Readable (now b) rd ⌝ }
-    ensures { λ r. ⌜ r ≡ heldIn (runsIn (now (b .entry)) rd) row unit ⌝ }
-{
-    let k = find_run(b, rd, row, unit);
-    if k < rd.runs as usize {
-        let x = run_of(b, rd, k);
-        Held::By(x.duty)
-    } else {
-        Held::Idle
-    }
-}
-
-// ---- the edges of a block
-
-// What holds the first and the last unit of each of 32 rows, and of one row past them: 0 for idle, else the duty's
-// number and 1.
-pub struct Edges {
-    pub starts: [u32; 33],
-    pub ends: [u32; 33],
-}
-
-// What holds a unit of a run's row: the run's duty where the run has the unit, else what held it before.
-fn edge(x: Run, unit: u32, old: u32) -> u32
-    requires { ⌜ (stop x ≤ mostTicks) × (x .duty < 64) ⌝ }
-    ensures { λ r. ⌜ r ≡ pick (covers x (x .row) unit) (x .duty + 1) old ⌝ }
-{
-    if (x.first <= unit) & (unit < x.first + x.length) {
-        x.duty + 1
-    } else {
-        old
-    }
-}
-
-// The edges of a table. The first run that has a unit holds it, so the runs are passed from the last to the first.
-pub fn edges_of(b: &[u8], rd: Reading) -> Edges
-    requires { ⌜ Readable (now b) rd ⌝ }
-    ensures { λ r. ⌜ (r .starts ≡ startsOf (tableOf (now (b .entry)) rd)) × (r .ends ≡ endsOf (tableOf (now (b .entry)) rd)) ⌝ }
-{
-    let mut starts = [0u32; 33];
-    let mut ends = [0u32; 33];
-    let last = rd.block_length - 1;
-    let mut k = rd.runs as usize;
-    while 0 < k {
-        k -= 1;
-        let x = run_of(b, rd, k);
-        let r = x.row.0 as usize;
-        starts[r] = edge(x, 0, starts[r]);
-        ends[r] = edge(x, last, ends[r]);
-    }
-    Edges { starts, ends }
-}
-
-// ---- chains
 
 // Whether one duty holds both, of two edges.
-fn same_duty(g: u32, h: u32) -> bool
+pub fn same_duty(g: u32, h: u32) -> bool
     ensures { λ r. ⌜ r ≡ sameCode g h ⌝ }
 {
     (g != 0) & (g == h)
 }
 
 // Whether the row after this one is chained to it.
-fn linked(starts: &[u32; 33], ends: &[u32; 33], row: Row) -> bool
+pub fn linked(starts: &[u32; 33], ends: &[u32; 33], row: Row) -> bool
     requires { ⌜ row .0 < 32 ⌝ }
     ensures { λ r. ⌜ r ≡ linkOf (now (starts .entry)) (now (ends .entry)) (row .0) ⌝ }
 {
@@ -134,7 +24,7 @@ fn linked(starts: &[u32; 33], ends: &[u32; 33], row: Row) -> bool
 }
 
 // The first row of a row's chain: down along the links.
-fn chain_first(starts: &[u32; 33], ends: &[u32; 33], row: Row) -> Row
+pub fn chain_first(starts: &[u32; 33], ends: &[u32; 33], row: Row) -> Row
     requires { ⌜ row .0 ≤ 32 ⌝ }
     ensures { λ r. ⌜ (r .0 ≡ firstOf (linkOf (now (starts .entry)) (now (ends .entry))) (row .0)) × (r .0 ≤ row .0) ⌝ }
 {
@@ -177,46 +67,4 @@ pub fn row_in(starts: &[u32; 33], ends: &[u32; 33], engine: Engine, block: u64) 
     let first = chain_first(starts, ends, home);
     let last = chain_last(starts, ends, home);
     further(first, last, home, block)
-}
-
-// The same, of table bytes.
-pub fn row_of(b: &[u8], rd: Reading, engine: Engine, block: u64) -> Row
-    requires { ⌜ Readable (now b) rd × (engine .0 < rd .engines) ⌝ }
-    ensures { λ r. ⌜ r ≡ rowAt (link (tableOf (now (b .entry)) rd)) block engine ⌝ }
-{
-    let e = edges_of(b, rd);
-    let starts = e.starts;
-    let ends = e.ends;
-    row_in(&starts, &ends, engine, block)
-}
-
-// ---- what goes on over a boundary
-
-// Whether the duty at the end of a row goes on at the start of the next row of the row's engine.
-fn carries(starts: &[u32; 33], ends: &[u32; 33], row: Row) -> bool
-    requires { ⌜ row .0 < 32 ⌝ }
-    ensures { λ r. ⌜ r ≡ carriesOf (now (starts .entry)) (now (ends .entry)) (row .0) ⌝ }
-{
-    if linked(starts, ends, row) {
-        return true;
-    }
-    let r = row.0 as usize;
-    let first = chain_first(starts, ends, row).0 as usize;
-    same_duty(ends[r], starts[first])
-}
-
-// At how many rows a duty is carried over a boundary: those are no loads in any block but the first.
-pub fn carried(starts: &[u32; 33], ends: &[u32; 33], engines: u32) -> u32
-    requires { ⌜ engines ≤ 32 ⌝ }
-    ensures { λ r. ⌜ (r ≡ carriedOf (now (starts .entry)) (now (ends .entry)) engines) × (r ≤ engines) ⌝ }
-{
-    let mut count: u32 = 0;
-    let mut r: u32 = 0;
-    while r < engines {
-        if carries(starts, ends, Row(r)) {
-            count += 1;
-        }
-        r += 1;
-    }
-    count
 }

@@ -1,1 +1,1 @@
-pub mod Through
+mod Found

@@ -9,32 +9,27 @@ use Rattle.laws.specs.Lists.{over}
 use Rattle.paper.specs.Outcome.{Outcome, refused, answer, lengthOf, leaves}
 use Rattle.paper.specs.Builder.{build}
 use Rattle.paper.proofs.Listed.{build-listed}
-use Rattle.paper.proofs.Outcomes.{answered, answer-one, refused-one}
+use Rattle.paper.proofs.Outcomes.{answered, answer-one, then-refused}
 use Rattle.builder.specs.declared.Built.{Built}
 use Rattle.builder.specs.declared.Built.the-variants.{Length, Refused}
 use Rattle.builder.specs.Built.{builtAs}
 use Rattle.tickplume.specs.Face.{Told, buildCall, buildEntries}
-use Rattle.tickplume.proofs.Stored.{stored-one}
+use Rattle.entries.proofs.Stored.{stored-one}
 
 -- what an outcome of the builder leaves: the word and the answer, and the table
 abbrev pub Left : Outcome (List ℕ) → ℕ → List ℕ → List ℕ → List ℕ → List ℕ → Type 0
 Left o word table table′ lent lent′ = Told (buildEntries o) word lent lent′ × (table′ ≡ leaves o table)
 
--- a refusal of a length is the refusal
-length-refused : (o : Outcome (List ℕ)) (n p : ℕ) → lengthOf o ≡ refused n p → o ≡ refused n p
-length-refused (refused k q) n p e = let z = refused-one k q n p e in rw (z .0, z .1)
-length-refused (answer w) n p e = answered (length w) n p e
-
 -- a refusal of the builder has a number that fits a byte, and a place within a table
 pub build-fits : (m : ℕ) (ss ps : List ℕ) (room n p : ℕ) {r : Built} → builtAs r ≡ lengthOf (build m ss ps room) → r ≡ Refused n p → (n < 256) × (p ≤ 4096)
 build-fits m ss ps room n p e q =
-    let z = build-listed m ss ps room n p (length-refused (build m ss ps room) n p (sym e ∙ ap builtAs q)) in
+    let z = build-listed m ss ps room n p (then-refused (build m ss ps room) length n p (sym e ∙ ap builtAs q)) in
     (z .byte, z .place)
 
 -- the builder refused
 left-refused : (o : Outcome (List ℕ)) (n p word : ℕ) (table table′ lent : List ℕ) → lengthOf o ≡ refused n p → table′ ≡ leaves o table → word ≡ n + 256 * p → Left o word table table′ lent lent
 left-refused o n p word table table′ lent e =
-    let z = length-refused o n p e in rw z (λ h w. (record { said = w; left = refl }, h))
+    let z = then-refused o length n p e in rw z (λ h w. (record { said = w; left = refl }, h))
 
 -- the builder wrote a table
 left-answer : (o : Outcome (List ℕ)) (k : ℕ) (table table′ lent : List ℕ) → lengthOf o ≡ answer k → table′ ≡ leaves o table → 1 ≤ length lent → Left o 0 table table′ lent (set lent 0 k)

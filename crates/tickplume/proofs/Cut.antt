@@ -1,7 +1,7 @@
 -- What is asked by a lent state comes to the same whether its entries are cut to 32 bits or not: the rows of an accepted table are below its
 -- engines, far below the cut; and bytes that are not accepted are refused before the state is looked at.
 -- Assumes nothing.
-use Prim.Native.Nat.{ℕ, _+_, _-_, _<_, min}
+use Prim.Native.Nat.{ℕ, _+_, _<_, min}
 use mathlib.Core.Path.{_≡_, refl, ap, _∙_}
 use mathlib.Core.List.{List}
 use native.Mathlib.Omega.{arith}
@@ -23,9 +23,9 @@ use Rattle.paper.specs.Answers.{State, rowsAt, rowTold, advanced}
 use Rattle.paper.proofs.AcceptedBytes.{accepted-ranged}
 use Rattle.paper.proofs.Links.{closed, rows-end}
 use Rattle.paper.proofs.Rotation.{row-below}
-use Rattle.answers.specs.declared.Dispatcher.{Dispatcher}
-use Rattle.answers.specs.Told.{Handed, stateAs, handed}
-use Rattle.tickplume.specs.Face.{stateIn}
+use Rattle.dispatcher.specs.declared.Dispatcher.{Dispatcher}
+use Rattle.dispatcher.specs.Told.{Handed, stateAs, handed}
+use Rattle.entries.specs.Entries.{stateIn}
 use Rattle.tickplume.proofs.Narrowed.{most, cut-same}
 
 -- the state with its entries cut

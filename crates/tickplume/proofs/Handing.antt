@@ -4,10 +4,10 @@ use Prim.Native.Nat.{ℕ}
 use mathlib.Core.Path.{_≡_, refl, sym, ap, _∙_}
 use Rattle.paper.specs.Outcome.{Outcome, refused, answer}
 use Rattle.paper.specs.Answers.{State}
-use Rattle.answers.specs.declared.Dispatched.{Dispatched}
-use Rattle.answers.specs.declared.Verdict.{Verdict}
-use Rattle.answers.specs.declared.Verdict.the-variants.{Done, Refused}
-use Rattle.answers.specs.Told.{Handed, stateAs, handed, outcomeAs, dispatchedAs}
+use Rattle.dispatcher.specs.declared.Dispatched.{Dispatched}
+use Rattle.dispatcher.specs.declared.Verdict.{Verdict}
+use Rattle.dispatcher.specs.declared.Verdict.the-variants.{Done, Refused}
+use Rattle.dispatcher.specs.Told.{Handed, stateAs, handed, outcomeAs, dispatchedAs}
 
 handed-outcome : (o : Outcome State) → handed o .outcome ≡ o
 handed-outcome (refused n p) = refl

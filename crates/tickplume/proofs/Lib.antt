@@ -1,5 +1,4 @@
 pub mod Telling
-pub mod Stored
 pub mod Building
 pub mod Narrowed
 pub mod Cut

@@ -1,19 +1,16 @@
 -- The outside face for C and Rust: how an outcome is handed over as a returned word and the entries of a lent answer.
-use Prim.Native.Nat.{ℕ, _+_, _-_, _*_, _^_}
+use Prim.Native.Nat.{ℕ, _+_, _*_}
 use mathlib.Core.Path.{_≡_}
 use mathlib.Core.List.{List, [], _∷_}
 use lib.Dec.{ltb}
-use lib.ListN.{length, getD}
+use lib.ListN.{length}
 use Rattle.laws.specs.Choice.{pick}
-use Rattle.laws.specs.Lists.{tab}
-use Rattle.paper.specs.declared.Reading.{Reading}
-use Rattle.paper.specs.declared.Held.{Held}
-use Rattle.paper.specs.declared.Held.the-variants.{Idle, By}
 use Rattle.paper.specs.Words.{engine}
 use Rattle.paper.specs.Outcome.{Outcome, refused, answer, andThen, leaves}
 use Rattle.paper.specs.Builder.{build}
 use Rattle.paper.specs.Rules.{judged}
-use Rattle.paper.specs.Answers.{Reply, State, question, start, rowTold, advanced, counted}
+use Rattle.paper.specs.Answers.{question, start, rowTold, advanced, counted}
+use Rattle.entries.specs.Entries.{readingEntries, replyEntries, stateEntries, stateIn}
 
 -- the returned word: 0, or the refusal's number in the low eight bits and its place above them
 abbrev pub wordOf : Outcome (List ℕ) → ℕ
@@ -40,31 +37,15 @@ buildCall m ss ps table lent = needing 1 lent (build m ss ps (length table))
 abbrev pub buildEntries : Outcome (List ℕ) → Outcome (List ℕ)
 buildEntries o = entries (λ w. length w ∷ []) o
 
--- the judge: block length, engines, duties, runs
-abbrev pub readingEntries : Reading → List ℕ
-readingEntries rd = rd .«block_length» ∷ rd .engines ∷ rd .duties ∷ rd .runs ∷ []
-
+-- the judge: the reading
 unfoldable pub judgeCall : List ℕ → List ℕ → Outcome (List ℕ)
 judgeCall b lent = needing 4 lent (entries readingEntries (judged b))
 
--- the question: the row, and the duty or the mark for idle
-abbrev pub heldEntry : Held → ℕ
-heldEntry Idle = 2 ^ 64 - 1
-heldEntry (By i) = i
-
-abbrev pub replyEntries : Reply → List ℕ
-replyEntries r = r .row .0 ∷ heldEntry (r .held) ∷ []
-
+-- the question: the reply
 unfoldable pub questionCall : List ℕ → ℕ → ℕ → List ℕ → Outcome (List ℕ)
 questionCall b e k lent = needing 2 lent (entries replyEntries (question b (engine e) k))
 
--- the dispatcher's state: the block, then 32 rows
-abbrev pub stateEntries : State → List ℕ
-stateEntries s = s .block ∷ s .rows
-
-abbrev pub stateIn : List ℕ → State
-stateIn l = record { block = getD l 0 0; rows = tab 32 (λ e. getD l (e + 1) 0) }
-
+-- the dispatcher: its state
 unfoldable pub startCall : List ℕ → ℕ → List ℕ → Outcome (List ℕ)
 startCall b k lent = needing 33 lent (entries stateEntries (start b k))
 

@@ -2,70 +2,22 @@
 // as a pointer and a length. The returned word is 0, or a refusal's number in the low eight bits and its place above them;
 // a refused call writes nothing.
 ghost use mathlib.Core.Path.{_≡_};
-ghost use mathlib.Core.List.{_∷_};
-ghost use Prim.Native.Nat.{_+_, _*_, _≤_, _<_, min};
-ghost use lib.ListN.{length, getD};
-ghost use Rattle.laws.specs.Lists.{over, tab};
 ghost use Rattle.paper.specs.Outcome.{leaves};
 ghost use Rattle.tickplume.specs.Face.{Told, buildCall, buildEntries, judgeCall, questionCall, startCall, rowCall, nextCall, countCall};
-use answers::Answer;
-use answers::Counted;
-use answers::Dispatcher;
-use answers::RowTold;
-use answers::Verdict;
 use builder::Built;
+use dispatcher::Dispatcher;
+use dispatcher::RowTold;
+use dispatcher::Verdict;
+use entries::dispatcher_in;
+use entries::put_reading;
+use entries::put_reply;
+use entries::put_state;
+use entries::refusal;
+use load_count::Counted;
 use paper::Engine;
+use paper::Held;
 use paper::Judged;
-
-// ---- words and entries
-
-// A refusal as a word.
-fn refusal(number: u32, place: usize) -> u64
-    requires { ⌜ (number < 256) × (place ≤ 4096) ⌝ }
-    ensures { λ r. ⌜ r ≡ number + 256 * place ⌝ }
-{
-    number as u64 + 256 * place as u64
-}
-
-// An entry of a lent state as a row number; one that is too large becomes a number that no row has.
-fn narrow(x: u64) -> u32
-    ensures { λ r. ⌜ r ≡ min x 4294967295 ⌝ }
-{
-    if x < 4294967295 { x as u32 } else { 4294967295 }
-}
-
-// The dispatcher in a lent state.
-fn taken(state: &[u64]) -> Dispatcher
-    requires { ⌜ 33 ≤ length (now state) ⌝ }
-    ensures { λ r. ⌜ (r .block ≡ getD (now (state .entry)) 0 0) × (r .rows ≡ tab 32 (λ e. min (getD (now (state .entry)) (e + 1) 0) 4294967295)) ⌝ }
-{
-    let mut rows = [0u32; 32];
-    let mut e = 0;
-    while e < 32 {
-        rows[e] = narrow(state[e + 1]);
-        e += 1;
-    }
-    Dispatcher {
-        block: state[0],
-        rows,
-    }
-}
-
-// The dispatcher put into a lent state: the block, then the rows.
-fn put(state: &mut [u64], d: Dispatcher)
-    requires { ⌜ 33 ≤ length (now state) ⌝ }
-    ensures { λ r. ⌜ now (state .exit) ≡ over (d .block ∷ d .rows) (now (state .entry)) ⌝ }
-{
-    let rows = d.rows;
-    state[0] = d.block;
-    let mut e = 0;
-    while e < 32 {
-        state[e + 1] = rows[e] as u64;
-        e += 1;
-    }
-}
-
-// ---- the calls
+use question::Answer;
 
 // SA1's plan of the duties, into the lent table.
 #[no_mangle]
@@ -102,10 +54,7 @@ pub extern "C" fn tickplume_judge(table: &[u8], answer: &mut [u64]) -> u64
     match judge::judge(table) {
         Judged::Bad(fault) => refusal(judge::number_of(fault), judge::place_of(fault)),
         Judged::Accepted(rd) => {
-            answer[0] = rd.block_length as u64;
-            answer[1] = rd.engines as u64;
-            answer[2] = rd.duties as u64;
-            answer[3] = rd.runs as u64;
+            put_reading(answer, rd);
             0
         }
     }
@@ -124,16 +73,14 @@ pub extern "C" fn tickplume_question(
     if answer.len() < 2 {
         return refusal(255, 2);
     }
-    match answers::question(table, Engine(engine), tick) {
+    match question::question(table, Engine(engine), tick) {
         Answer::Refused(number, place) => refusal(number, place),
         Answer::Serves(duty, row) => {
-            answer[0] = row.0 as u64;
-            answer[1] = duty as u64;
+            put_reply(answer, row, Held::By(duty));
             0
         }
         Answer::Idle(row) => {
-            answer[0] = row.0 as u64;
-            answer[1] = 18446744073709551615;
+            put_reply(answer, row, Held::Idle);
             0
         }
     }
@@ -153,7 +100,7 @@ pub extern "C" fn tickplume_start(table: &[u8], block: u64, state: &mut [u64]) -
         Verdict::Refused(number, place) => refusal(number, place),
         Verdict::Done => {
             let next = done.state;
-            put(state, next);
+            put_state(state, next);
             0
         }
     }
@@ -170,7 +117,7 @@ pub extern "C" fn tickplume_row(table: &[u8], state: &[u64], engine: u32, answer
     if answer.len() < 1 {
         return refusal(255, 1);
     }
-    match taken(state).row(table, Engine(engine)) {
+    match dispatcher_in(state).row(table, Engine(engine)) {
         RowTold::Refused(number, place) => refusal(number, place),
         RowTold::At(row) => {
             answer[0] = row.0 as u64;
@@ -187,13 +134,13 @@ pub extern "C" fn tickplume_next(table: &[u8], state: &mut [u64]) -> u64
     if state.len() < 33 {
         return refusal(255, 33);
     }
-    let done = taken(state).next(table);
+    let done = dispatcher_in(state).next(table);
     let verdict = done.verdict;
     match verdict {
         Verdict::Refused(number, place) => refusal(number, place),
         Verdict::Done => {
             let next = done.state;
-            put(state, next);
+            put_state(state, next);
             0
         }
     }
@@ -207,7 +154,7 @@ pub extern "C" fn tickplume_count(table: &[u8], blocks: u64, answer: &mut [u64])
     if answer.len() < 1 {
         return refusal(255, 1);
     }
-    match answers::count(table, blocks) {
+    match load_count::count(table, blocks) {
         Counted::Refused(number, place) => refusal(number, place),
         Counted::Loads(loads) => {
             answer[0] = loads;

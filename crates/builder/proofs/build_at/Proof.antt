@@ -8,8 +8,8 @@ use lib.ListN.{length}
 use Rattle.paper.specs.Sa1.{sa1}
 use Rattle.paper.specs.Bytes.{small, encode}
 use Rattle.paper.specs.Builder.{dutiesOf}
-use Rattle.builder.proofs.Duties.{duties-length}
-use Rattle.builder.proofs.Table.{sa1-length}
+use Rattle.duties.proofs.Duties.{duties-length}
+use Rattle.write_table.proofs.Table.{sa1-length}
 use Rattle.builder.proofs.Refusals.{refuses, answers, refusal-6, refusal-7, refusal-8, built}
 use borrow.Author.Needs.{needs}
 use Rattle.builder.proofs.build_at.Statement.{statement}

@@ -3,8 +3,8 @@
 use mathlib.Core.Path.{sym, _∙_}
 use native.Mathlib.Omega.{arith}
 use borrow.Author.Tests.{lt-ltb, le-ltb, not-false}
-use Rattle.paper.specs.Bytes.{afterHead, parse}
-use Rattle.form.proofs.Stands.{HeadRanged, head-ranged}
+use Rattle.paper.specs.Bytes.{small, afterHead, parse}
+use Rattle.paper.proofs.Passed.{HeadTold, head-told}
 use borrow.Author.Needs.{needs}
 use Rattle.form.proofs.form_of.Statement.{statement}
 use Rattle.form.proofs.form_of.Tie as tie
@@ -17,8 +17,8 @@ unfolding parse
 returns c = rw (← c .before .head-good .ensures, c .if1 .taken)
 
 -- the head is good
-head : (c : tie.Else1) → HeadRanged (c .before .before .before .args .b .now)
-head c = head-ranged _ (sym (c .before .head-good .ensures) ∙ not-false _ (c .if1 .left))
+head : (c : tie.Else1) → HeadTold small (c .before .before .before .args .b .now)
+head c = head-told small _ (sym (c .before .head-good .ensures) ∙ not-false _ (c .if1 .left))
 
 read-four-requires : tie.Need-read-four-requires
 read-four-requires c κs = omega (arith, head c)

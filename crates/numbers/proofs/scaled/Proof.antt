@@ -3,7 +3,6 @@
 use native.Mathlib.Nat.{mul-le-mul}
 use native.Mathlib.Omega.{arith}
 use mathlib.Core.Path.{refl}
-use Rattle.paper.specs.Bytes.{mostTicks}
 use Rattle.numbers.proofs.scaled.Statement.{statement}
 use Rattle.numbers.proofs.scaled.Tie as tie
 

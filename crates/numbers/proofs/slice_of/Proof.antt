@@ -1,8 +1,7 @@
 -- `slice_of`: T·C/D is at most T since C is at most D, so it fits 32 bits.
 -- Assumes nothing.
-use mathlib.Core.Path.{_≡_, refl}
-use Prim.Native.Nat.{_*_, _/_, _≤_}
-use native.Mathlib.Nat.{div-le-of-le-mul, mul-le-mul-left, mul-comm}
+use Prim.Native.Nat.{_/_, _≤_}
+use native.Mathlib.Nat.{div-le-of-le-mul, mul-le-mul-left}
 use native.Mathlib.Omega.{arith}
 use borrow.Author.Needs.{needs}
 use Rattle.paper.specs.Words.{slice}

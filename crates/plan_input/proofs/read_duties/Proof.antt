@@ -4,14 +4,14 @@
 use mathlib.Core.Path.{sym, _∙_}
 use mathlib.Core.List.{List}
 use Prim.Native.Nat.{ℕ, _-_, _≤_}
-use native.Mathlib.Omega.{arith}
 use borrow.Author.Needs.{needs}
 use lib.ListN.{length, take, drop}
+use lib.Seq.{length-take-le}
 use borrow.Author.Tests.{not-true, not-false}
 use Rattle.laws.specs.Lists.{tab}
-use Rattle.plan_input.proofs.DutyLines.{part-rest, part-long}
-use Rattle.plan_input.proofs.Lines.{good-ended, good-place, good-duty}
-use Rattle.plan_input.proofs.Reading.{Reading, start, more, broken, finished}
+use Rattle.laws.proofs.Writing.{lent-rest}
+use Rattle.plan_input.proofs.Lines.{good-parts}
+use Rattle.plan_input.proofs.Reading.{Reading, start, more, ahead, broken, finished}
 use Rattle.plan_input.proofs.read_duties.Statement.{statement}
 use Rattle.plan_input.proofs.read_duties.Tie as tie
 
@@ -52,29 +52,30 @@ faulty-requires c κs = search needs
 
 returns : tie.Need-returns Inv-loop μ-loop
 returns c =
-    let b = c .before .before .before .before .before .before .before .before .args .b .now in
+    let args = c .before .before .before .before .before .before .before .before .args in
     let l = c .before .before .before .before .before .before .loop in
+    let found = c .before .before .before .find in
     let bad = sym (c .before .before .line-good .ensures) ∙ not-true _ (c .before .if1 .taken) in
-    let whole = broken b (l .services) (l .periods) (l .i) (l .at) (rest b (l .at)) (c .before .before .before .find .result) (l .inv .2) (part-rest b (l .at)) (c .before .before .before .find .ensures .0) (search needs) bad in
-    c .faulty .ensures ∙ rw whole
+    c .faulty .ensures
+    ∙ broken (args .b .now) (l .services) (l .periods) (args .engines) (l .i) (l .at) (rest (args .b .now) (l .at)) (found .result) (l .inv .2) (lent-rest (l .at) (args .b .now)) (found .ensures .0) (search needs) bad
 
 slice-aggregate-duty-read : tie.Need-slice-aggregate-duty-read Inv-loop μ-loop
-slice-aggregate-duty-read c = part-long (rest (c .before .before .before .before .before .before .before .before .args .b .now) (c .before .before .before .before .before .before .loop .at)) (c .before .before .before .find .result) (search needs)
+slice-aggregate-duty-read c = sym (length-take-le (c .before .before .before .find .result) (rest (c .before .before .before .before .before .before .before .before .args .b .now) (c .before .before .before .before .before .before .loop .at)) (search needs))
 
 duty-read-requires : tie.Need-duty-read-requires Inv-loop μ-loop
-duty-read-requires c κs = good-duty _ _ _ (sym (c .before .before .line-good .ensures) ∙ not-false _ (c .before .if1 .left))
+duty-read-requires c κs = good-parts _ _ _ (sym (c .before .before .line-good .ensures) ∙ not-false _ (c .before .if1 .left)) .2
 
 mul-services : tie.Need-mul-services Inv-loop μ-loop
 mul-services c = search needs
 
 array-write-services : tie.Need-array-write-services Inv-loop μ-loop
-array-write-services c = good-place _ _ _ (sym (c .before .before .before .line-good .ensures) ∙ not-false _ (c .before .before .if1 .left))
+array-write-services c = good-parts _ _ _ (sym (c .before .before .before .line-good .ensures) ∙ not-false _ (c .before .before .if1 .left)) .1
 
 mul-periods : tie.Need-mul-periods Inv-loop μ-loop
 mul-periods c = search needs
 
 array-write-periods : tie.Need-array-write-periods Inv-loop μ-loop
-array-write-periods c = good-place _ _ _ (sym (c .before .before .before .line-good .ensures) ∙ not-false _ (c .before .before .if1 .left))
+array-write-periods c = good-parts _ _ _ (sym (c .before .before .before .line-good .ensures) ∙ not-false _ (c .before .before .if1 .left)) .1
 
 add-i : tie.Need-add-i Inv-loop μ-loop
 add-i c = search needs
@@ -86,27 +87,28 @@ add-at-2 : tie.Need-add-at-2 Inv-loop μ-loop
 add-at-2 c = search needs
 
 loop-less : tie.Need-loop-less Inv-loop μ-loop
-loop-less c = search needs
+loop-less c = ahead (c .before .before .before .before .before .before .before .before .before .args .b .now) (c .before .before .before .before .before .before .before .loop .i) (c .before .before .before .before .before .before .before .loop .at) (c .before .before .before .before .find .result) (search needs) (sym (c .before .before .before .line-good .ensures) ∙ not-false _ (c .before .before .if1 .left)) .2
 
 loop-again : tie.Need-loop-again Inv-loop μ-loop
 loop-again c =
     let b = c .before .before .before .before .before .before .before .before .before .args .b .now in
     let l = c .before .before .before .before .before .before .before .loop in
-    let good = sym (c .before .before .before .line-good .ensures) ∙ not-false _ (c .before .before .if1 .left) in (
-      omega (arith, good-place _ _ _ good),
-      omega (arith, good-ended _ _ _ good),
-      more b (l .services) (l .periods) (l .i) (l .at) (rest b (l .at)) (c .before .before .before .before .find .result) (c .duty-read .result) (l .inv .2) (part-rest b (l .at)) (c .before .before .before .before .find .ensures .0) good (c .duty-read .ensures),
+    let found = c .before .before .before .before .find in
+    let good = sym (c .before .before .before .line-good .ensures) ∙ not-false _ (c .before .before .if1 .left) in
+    let next = ahead b (l .i) (l .at) (found .result) (search needs) good in (
+      next .0,
+      next .1,
+      more b (l .services) (l .periods) (l .i) (l .at) (rest b (l .at)) (found .result) (c .duty-read .result) (l .inv .2) (lent-rest (l .at) b) (found .ensures .0) good (c .duty-read .ensures),
     )
 
-cast-t23 : tie.Need-cast-t23 Inv-loop μ-loop
-cast-t23 c = search needs
+cast-duties : tie.Need-cast-duties Inv-loop μ-loop
+cast-duties c = search needs
 
 returns-2 : tie.Need-returns-2 Inv-loop μ-loop
 returns-2 c =
-    let b = c .before .before .before .args .b .now in
+    let args = c .before .before .before .args in
     let l = c .before .loop in
-    let whole = finished b (l .services) (l .periods) (l .i) (l .at) (l .inv .2) (search needs) in
-    rw (whole, l .inv .2 .service, l .inv .2 .period, l .inv .2 .many)
+    finished (args .b .now) (l .services) (l .periods) (args .engines) (l .i) (l .at) (l .inv .2) (search needs)
 
 pub read-duties-spec : {M : Type 1} → statement M
 read-duties-spec =
@@ -134,5 +136,5 @@ read-duties-spec =
     add-at-2
     loop-less
     loop-again
-    cast-t23
+    cast-duties
     returns-2)

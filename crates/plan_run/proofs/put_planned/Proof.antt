@@ -1,15 +1,24 @@
 -- `put_planned`: what was built is judged and printed, or the refusal is.
 -- Assumes nothing.
-use mathlib.Core.Path.{sym, ap, _∙_}
+use Prim.Native.Nat.{ℕ}
+use mathlib.Core.Path.{sym, ap}
+use mathlib.Core.List.{List}
 use native.Mathlib.Omega.{arith}
 use lib.ListN.{take}
 use lib.Seq.{length-take-le}
-use Rattle.paper.specs.Text.{printed}
-use Rattle.builder.specs.Built.{builtAs}
-use Rattle.plan_run.proofs.Building.{puts-as, build-size, build-printed, build-refused}
 use borrow.Author.Needs.{needs}
+use Rattle.paper.specs.Text.{printed}
+use Rattle.plan_input.specs.declared.Input.{Input}
+use Rattle.plan_run.proofs.Building.{puts-as, build-size, build-printed, build-refused}
 use Rattle.plan_run.proofs.put_planned.Statement.{statement}
 use Rattle.plan_run.proofs.put_planned.Tie as tie
+
+-- the duties' numbers, of those that were read
+abbrev services : Input → List ℕ
+services given = take (given .duties) (given .services)
+
+abbrev periods : Input → List ℕ
+periods given = take (given .duties) (given .periods)
 
 cast-n : tie.Need-cast-n
 cast-n c = search needs
@@ -18,13 +27,17 @@ array-share-prefix-services : tie.Need-array-share-prefix-services
 array-share-prefix-services c = search needs
 
 slice-aggregate-build : tie.Need-slice-aggregate-build
-slice-aggregate-build c = sym (length-take-le (c .before .before .before .before .before .args .given .duties) _ (omega (arith, c .before .before .before .before .before .pre .1 .few, c .before .before .before .before .before .pre .1 .services-long)))
+slice-aggregate-build c =
+    let start = c .before .before .before .before .before in
+    sym (length-take-le (start .args .given .duties) (start .args .given .services) (omega (arith, start .pre .1 .few, start .pre .1 .services-long)))
 
 array-share-prefix-periods : tie.Need-array-share-prefix-periods
 array-share-prefix-periods c = search needs
 
 slice-aggregate-build-2 : tie.Need-slice-aggregate-build-2
-slice-aggregate-build-2 c = sym (length-take-le (c .before .before .before .before .before .before .args .given .duties) _ (omega (arith, c .before .before .before .before .before .before .pre .1 .few, c .before .before .before .before .before .before .pre .1 .periods-long)))
+slice-aggregate-build-2 c =
+    let start = c .before .before .before .before .before .before in
+    sym (length-take-le (start .args .given .duties) (start .args .given .periods) (omega (arith, start .pre .1 .few, start .pre .1 .periods-long)))
 
 slice-aggregate-build-3 : tie.Need-slice-aggregate-build-3
 slice-aggregate-build-3 c = search needs
@@ -36,10 +49,14 @@ enum-known-size : tie.Need-enum-known-size
 enum-known-size c = search needs
 
 array-share-prefix-table : tie.Need-array-share-prefix-table
-array-share-prefix-table c = omega (arith, build-size (c .before .before .before .before .before .before .before .before .before .before .before .before .before .args .given .engines) (take (c .before .before .before .before .before .before .before .before .before .before .before .before .before .args .given .duties) (c .before .before .before .before .before .before .before .before .before .before .before .before .before .args .given .services)) (take (c .before .before .before .before .before .before .before .before .before .before .before .before .before .args .given .duties) (c .before .before .before .before .before .before .before .before .before .before .before .before .before .args .given .periods)) _ (sym (ap builtAs (c .before .before .size .given .1)) ∙ c .before .before .before .before .before .build .ensures .0))
+array-share-prefix-table c =
+    let given = c .before .before .before .before .before .before .before .before .before .before .before .before .before .args .given in
+    omega (arith, build-size (given .engines) (services given) (periods given) _ (c .before .before .size .given .1) (c .before .before .before .before .before .build .ensures .0))
 
 slice-aggregate-put-plan : tie.Need-slice-aggregate-put-plan
-slice-aggregate-put-plan c = sym (length-take-le _ _ (omega (arith, build-size (c .before .before .before .before .before .before .before .before .before .before .before .before .before .before .args .given .engines) (take (c .before .before .before .before .before .before .before .before .before .before .before .before .before .before .args .given .duties) (c .before .before .before .before .before .before .before .before .before .before .before .before .before .before .args .given .services)) (take (c .before .before .before .before .before .before .before .before .before .before .before .before .before .before .args .given .duties) (c .before .before .before .before .before .before .before .before .before .before .before .before .before .before .args .given .periods)) _ (sym (ap builtAs (c .before .before .before .size .given .1)) ∙ c .before .before .before .before .before .before .build .ensures .0))))
+slice-aggregate-put-plan c =
+    let given = c .before .before .before .before .before .before .before .before .before .before .before .before .before .before .args .given in
+    sym (length-take-le _ _ (omega (arith, build-size (given .engines) (services given) (periods given) _ (c .before .before .before .size .given .1) (c .before .before .before .before .before .before .build .ensures .0))))
 
 put-plan-requires : tie.Need-put-plan-requires
 put-plan-requires c κs = search needs
@@ -54,13 +71,20 @@ same-length : tie.Need-same-length
 same-length c = search needs
 
 returns : tie.Need-returns
-returns c = puts-as (c .before .before .before .before .before .before .before .before .before .before .before .before .before .before .before .before .before .args .out .now) (build-printed (c .before .before .before .before .before .before .before .before .before .before .before .before .before .before .before .before .before .args .given .engines) (take (c .before .before .before .before .before .before .before .before .before .before .before .before .before .before .before .before .before .args .given .duties) (c .before .before .before .before .before .before .before .before .before .before .before .before .before .before .before .before .before .args .given .services)) (take (c .before .before .before .before .before .before .before .before .before .before .before .before .before .before .before .before .before .args .given .duties) (c .before .before .before .before .before .before .before .before .before .before .before .before .before .before .before .before .before .args .given .periods)) _ _ _ (sym (ap builtAs (c .before .before .before .before .before .before .size .given .1)) ∙ c .before .before .before .before .before .before .before .before .before .build .ensures .0) (c .before .before .before .before .before .before .before .before .before .build .ensures .1)) (c .before .before .put-plan .ensures)
+returns c =
+    let start = c .before .before .before .before .before .before .before .before .before .before .before .before .before .before .before .before .before in
+    let given = start .args .given in
+    let built = c .before .before .before .before .before .before .before .before .before .build .ensures in
+    puts-as (start .args .out .now) (build-printed (given .engines) (services given) (periods given) _ _ _ (c .before .before .before .before .before .before .size .given .1) (built .0) (built .1)) (c .before .before .put-plan .ensures)
 
 same-length-2 : tie.Need-same-length-2
 same-length-2 c = search needs
 
 returns-2 : tie.Need-returns-2
-returns-2 c = puts-as (c .before .before .before .before .before .before .before .before .before .before .before .before .before .before .before .before .args .out .now) (ap printed (sym (build-refused (c .before .before .before .before .before .before .before .before .before .before .before .before .before .before .before .before .args .given .engines) (take (c .before .before .before .before .before .before .before .before .before .before .before .before .before .before .before .before .args .given .duties) (c .before .before .before .before .before .before .before .before .before .before .before .before .before .before .before .before .args .given .services)) (take (c .before .before .before .before .before .before .before .before .before .before .before .before .before .before .before .before .args .given .duties) (c .before .before .before .before .before .before .before .before .before .before .before .before .before .before .before .before .args .given .periods)) _ _ (sym (ap builtAs (c .before .before .before .before .before .number .given .1)) ∙ c .before .before .before .before .before .before .before .before .build .ensures .0)))) (c .before .before .put-refused .ensures)
+returns-2 c =
+    let start = c .before .before .before .before .before .before .before .before .before .before .before .before .before .before .before .before in
+    let given = start .args .given in
+    puts-as (start .args .out .now) (ap printed (sym (build-refused (given .engines) (services given) (periods given) _ _ (c .before .before .before .before .before .number .given .1) (c .before .before .before .before .before .before .before .before .build .ensures .0)))) (c .before .before .put-refused .ensures)
 
 pub put-planned-spec : {M : Type 1} → statement M
 put-planned-spec =

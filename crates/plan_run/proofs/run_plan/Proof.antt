@@ -22,10 +22,14 @@ put-refused-requires : tie.Need-put-refused-requires
 put-refused-requires c κs = search needs
 
 returns : tie.Need-returns
-returns c = puts-as (c .before .before .before .before .before .before .args .out .now) (read-printed _ _ (c .before .before .before .before .read-input .ensures) (c .before .before .enum-told .given .1)) (c .put-planned .ensures)
+returns c =
+    let read = c .before .before .before .before .read-input in
+    puts-as (c .before .before .before .before .before .before .args .out .now) (read-printed _ (read .result) (read .ensures) (c .before .before .enum-told .given .1)) (c .put-planned .ensures)
 
 returns-2 : tie.Need-returns-2
-returns-2 c = puts-as (c .before .before .before .before .before .before .before .args .out .now) (fault-printed _ _ _ (c .before .before .before .before .before .read-input .ensures) (c .before .before .before .verdict .given .1)) (c .put-refused .ensures)
+returns-2 c =
+    let read = c .before .before .before .before .before .read-input in
+    puts-as (c .before .before .before .before .before .before .before .args .out .now) (fault-printed _ (read .result) _ (read .ensures) (c .before .before .before .verdict .given .1)) (c .put-refused .ensures)
 
 pub run-plan-spec : {M : Type 1} → statement M
 run-plan-spec =

@@ -6,7 +6,7 @@ use lib.ListN.{length}
 use Rattle.laws.specs.Lists.{over}
 use Rattle.paper.specs.Outcome.{answer}
 use Rattle.paper.specs.Text.{planText}
-use Rattle.form.specs.Formed.{tableOf}
+use Rattle.formed.specs.Formed.{tableOf}
 use Rattle.plan_text.proofs.Fitting.{fitted-short, fitted-room, front-is}
 use borrow.Author.Needs.{needs}
 use Rattle.plan_text.proofs.fit_text.Statement.{statement}
@@ -20,25 +20,35 @@ put-text-requires c κs = search needs
 
 returns : tie.Need-returns
 returns c =
-    let e = fitted-short (length (c .before .before .before .before .before .before .args .out .now)) (c .before .before .put-text .result) (planText (tableOf (c .before .before .before .before .before .before .args .b .now) (c .before .before .before .before .before .before .args .rd))) (c .before .before .put-text .ensures .0 .0) (search needs) in
+    let start = c .before .before .before .before .before .before in
+    let text = planText (tableOf (start .args .b .now) (start .args .rd)) in
+    let e = fitted-short (length (start .args .out .now)) (c .before .before .put-text .result) text (c .before .before .put-text .ensures .0 .0) (search needs) in
     (rw e, rw e)
 
 array-share-prefix-text : tie.Need-array-share-prefix-text
 array-share-prefix-text c = search needs
 
 slice-aggregate-put-bytes : tie.Need-slice-aggregate-put-bytes
-slice-aggregate-put-bytes c = c .before .before .before .before .put-text .ensures .0 .0 ∙ ap length (sym (front-is _ _ _ _ (c .before .before .before .before .put-text .ensures .0 .0) (c .before .before .before .before .put-text .ensures .0 .1)))
+slice-aggregate-put-bytes c =
+    let put = c .before .before .before .before .put-text in
+    put .ensures .0 .0 ∙ ap length (sym (front-is _ _ _ _ (put .ensures .0 .0) (put .ensures .0 .1)))
 
 put-bytes-requires : tie.Need-put-bytes-requires
-put-bytes-requires c κs = rw (front-is _ _ _ _ (c .before .before .before .before .put-text .ensures .0 .0) (c .before .before .before .before .put-text .ensures .0 .1)) (omega (arith, c .before .before .before .before .put-text .ensures .0 .0))
+put-bytes-requires c κs =
+    let put = c .before .before .before .before .put-text in
+    rw (front-is _ _ _ _ (put .ensures .0 .0) (put .ensures .0 .1)) (omega (arith, put .ensures .0 .0))
 
 same-length : tie.Need-same-length
 same-length c = search needs
 
 returns-2 : tie.Need-returns-2
 returns-2 c =
-    let e = fitted-room (length (c .before .before .before .before .before .before .before .before .before .before .before .args .out .now)) (c .before .before .before .before .before .before .before .put-text .result) (planText (tableOf (c .before .before .before .before .before .before .before .before .before .before .before .args .b .now) (c .before .before .before .before .before .before .before .before .before .before .before .args .rd))) (c .before .before .before .before .before .before .before .put-text .ensures .0 .0) (search needs) in
-    (rw e (ap answer (c .before .before .before .before .before .before .before .put-text .ensures .0 .0)), rw e (c .before .before .put-bytes .ensures ∙ ap (λ w. over w (c .before .before .before .before .before .before .before .before .before .before .before .args .out .now)) (front-is _ _ _ _ (c .before .before .before .before .before .before .before .put-text .ensures .0 .0) (c .before .before .before .before .before .before .before .put-text .ensures .0 .1))))
+    let start = c .before .before .before .before .before .before .before .before .before .before .before in
+    let l = start .args .out .now in
+    let text = planText (tableOf (start .args .b .now) (start .args .rd)) in
+    let put = c .before .before .before .before .before .before .before .put-text in
+    let e = fitted-room (length l) (put .result) text (put .ensures .0 .0) (search needs) in
+    (rw e (ap answer (put .ensures .0 .0)), rw e (c .before .before .put-bytes .ensures ∙ ap (λ w. over w l) (front-is _ text _ _ (put .ensures .0 .0) (put .ensures .0 .1))))
 
 pub fit-text-spec : {M : Type 1} → statement M
 fit-text-spec =

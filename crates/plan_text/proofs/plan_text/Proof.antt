@@ -1,16 +1,15 @@
 -- `plan_text`: the judge decides, then the room.
 -- Assumes nothing.
-use mathlib.Core.Path.{ap, _∙_}
+use mathlib.Core.Path.{ap}
 use mathlib.Core.List.{List}
 use Prim.Native.Nat.{ℕ}
 use lib.ListN.{length}
+use borrow.Author.Needs.{needs}
 use Rattle.paper.specs.Words.{Table}
 use Rattle.paper.specs.Outcome.{Outcome, lengthOf, leaves}
 use Rattle.paper.specs.Builder.{fitted}
 use Rattle.paper.specs.Text.{planText, textFor}
-use Rattle.judge.proofs.Accepted.{accepted-as}
-use Rattle.answers.proofs.Judging.{ready, asked-accepted, asked-refused}
-use borrow.Author.Needs.{needs}
+use Rattle.judge.proofs.Asked.{ready, asked-accepted, asked-refused}
 use Rattle.plan_text.proofs.plan_text.Statement.{statement}
 use Rattle.plan_text.proofs.plan_text.Tie as tie
 
@@ -18,17 +17,21 @@ use Rattle.plan_text.proofs.plan_text.Tie as tie
 abbrev asked : ℕ → Table → Outcome (List ℕ)
 asked room t = fitted room (planText t)
 
-judge-requires : tie.Need-judge-requires
-judge-requires c κs = search needs
+rule-on-requires : tie.Need-rule-on-requires
+rule-on-requires c κs = search needs
 
-enum-known-rd : tie.Need-enum-known-rd
-enum-known-rd c = search needs
+enum-known-judged : tie.Need-enum-known-judged
+enum-known-judged c = search needs
 
 fit-text-requires : tie.Need-fit-text-requires
-fit-text-requires c κs = (accepted-as _ _ _ (c .before .before .before .before .judge .ensures) (c .before .before .rd .given .1) .formed, ready _ (c .before .before .before .before .judge .ensures) (c .before .before .rd .given .1))
+fit-text-requires c κs =
+    let b = c .before .before .before .before .before .before .before .before .before .before .before .args .table .now in
+    let ruled = c .before .before .before .before .before .before .before .before .rule-on .ensures in
+    let R = ready b (ruled .told) (c .before .before .before .before .judged .given .1) in
+    (R, (ruled .starts-are _ (R .formed), ruled .ends-are _ (R .formed)))
 
-enum-known-fault : tie.Need-enum-known-fault
-enum-known-fault c = search needs
+enum-known-judged-2 : tie.Need-enum-known-judged-2
+enum-known-judged-2 c = search needs
 
 number-of-requires : tie.Need-number-of-requires
 number-of-requires c κs = search needs
@@ -42,27 +45,27 @@ same-length c = search needs
 returns : tie.Need-returns
 unfolding textFor
 returns c =
-    let b = c .before .before .before .before .before .before .before .before .before .before .args .table .now in
-    let l = c .before .before .before .before .before .before .before .before .before .before .args .out .now in
-    let e = asked-accepted b (asked (length l)) (c .before .before .before .before .before .before .before .judge .ensures) (c .before .before .before .before .before .rd .given .1) in
-    (c .before .before .fit-text .ensures .0 ∙ ap lengthOf e, c .before .before .fit-text .ensures .1 ∙ ap (λ o. leaves o l) e)
+    let start = c .before .before .before .before .before .before .before .before .before .before .before .before .before .before in
+    let fit = c .before .before .fit-text in
+    let e = asked-accepted (start .args .table .now) (asked (length (start .args .out .now))) (c .before .before .before .before .before .before .before .before .before .before .before .rule-on .ensures .told) (c .before .before .before .before .before .before .before .judged .given .1) in
+    (rw (← e) (fit .ensures .0), rw (← e) (fit .ensures .1))
 
 returns-2 : tie.Need-returns-2
 unfolding textFor
 returns-2 c =
-    let b = c .before .before .before .before .before .before .before .before .args .table .now in
-    let l = c .before .before .before .before .before .before .before .before .args .out .now in
-    let e = asked-refused b (asked (length l)) (c .before .before .before .before .before .judge .ensures) (c .before .before .before .fault .given .1) (c .before .number-of .ensures) (c .place-of .ensures) in
+    let start = c .before .before .before .before .before .before .before .before .before .before in
+    let l = start .args .out .now in
+    let e = asked-refused (start .args .table .now) (asked (length l)) (c .before .before .before .before .before .before .before .rule-on .ensures .told) (c .before .before .before .judged2 .given .1) (c .before .number-of .ensures) (c .place-of .ensures) in
     (ap lengthOf e, ap (λ o. leaves o l) e)
 
 pub plan-text-spec : {M : Type 1} → statement M
 plan-text-spec =
     tie.close
     (tie.spec
-    judge-requires
-    enum-known-rd
+    rule-on-requires
+    enum-known-judged
     fit-text-requires
-    enum-known-fault
+    enum-known-judged-2
     number-of-requires
     place-of-requires
     same-length

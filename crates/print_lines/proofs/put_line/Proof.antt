@@ -8,7 +8,7 @@ use lib.ListN.{length, length-set}
 use Rattle.laws.specs.Lists.{flat}
 use Rattle.laws.proofs.Writing.{more, stored, moved, done, length-lent}
 use Rattle.print_lines.specs.Spaced.{spaced}
-use Rattle.print_lines.proofs.Line.{word-written, line-length}
+use Rattle.print_lines.proofs.Line.{word-written, line-length, line-room}
 use borrow.Author.Needs.{needs}
 use Rattle.print_lines.proofs.put_line.Statement.{statement}
 use Rattle.print_lines.proofs.put_line.Tie as tie
@@ -38,16 +38,15 @@ add-result : tie.Need-add-result
 add-result c = omega (arith, line-length (c .before .before .before .before .before .before .before .before .before .before .before .args .word .now) (c .before .before .before .before .before .before .before .before .before .before .before .args .numbers .now))
 
 same-length : tie.Need-same-length
-same-length c = simp length-set (search needs)
+same-length c = rw length-set (search needs)
 
 returns : tie.Need-returns
 returns c =
-    let word = c .before .before .before .before .before .before .before .before .before .before .before .args .word .now in
-    let numbers = c .before .before .before .before .before .before .before .before .before .before .before .args .numbers .now in
-    let both = more _ _ (10 ∷ []) _ (flat spaced numbers) _ _ (word-written word numbers _ _ (c .before .before .before .before .before .before .put-bytes .ensures)) (c .before .before .put-numbers .ensures .1) in (
-      omega (arith, line-length word numbers),
-      done _ _ _ _ (stored _ _ [] _ 10 _ (moved (ap (λ n. length word + n) (sym (c .before .before .put-numbers .ensures .0))) both) (omega (arith, line-length word numbers))),
-    )
+    let args = c .before .before .before .before .before .before .before .before .before .before .before .args in
+    let put = c .before .before .put-numbers in
+    let room = line-room (args .word .now) (args .numbers .now) _ (put .result) (c .before .before .before .before .before .before .before .before .before .before .before .pre) (put .ensures .0) in
+    let both = more _ _ (10 ∷ []) _ (flat spaced (args .numbers .now)) _ _ (word-written (args .word .now) (args .numbers .now) _ _ (c .before .before .before .before .before .before .put-bytes .ensures)) (put .ensures .1) in
+    (room .1, done _ _ _ _ (stored _ _ [] _ 10 _ (moved (ap (λ n. length (args .word .now) + n) (sym (put .ensures .0))) both) (room .0)))
 
 pub put-line-spec : {M : Type 1} → statement M
 put-line-spec =

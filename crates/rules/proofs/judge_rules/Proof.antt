@@ -7,11 +7,11 @@ use lib.Dec.{eqb}
 use lib.ListN.{length}
 use Rattle.paper.specs.Words.{Table, blockLengthOf}
 use Rattle.paper.specs.Outcome.{refused}
-use Rattle.rules.proofs.Through.{found-none, found-one}
-use Rattle.form.specs.Formed.{tableOf}
+use Rattle.rules.proofs.Found.{found-none, found-one}
+use Rattle.formed.specs.Formed.{tableOf}
 use borrow.Author.Tests.{eq-eqb, ne-eqb}
 use Rattle.paper.specs.Rules.{judgeTable}
-use Rattle.form.proofs.Table.{table-ticks, table-duties}
+use Rattle.formed.proofs.Table.{table-ticks, table-duties}
 use borrow.Author.Needs.{needs}
 use Rattle.rules.proofs.judge_rules.Statement.{statement}
 use Rattle.rules.proofs.judge_rules.Tie as tie
@@ -22,7 +22,7 @@ table s = tableOf (s .args .b .now) (s .args .rd)
 
 -- its block length and the number of its duties
 ticks : (s : tie.Start) → table s .ticks ≡ s .args .rd .«block_length»
-ticks s = table-ticks _ _ (s .pre)
+ticks s = table-ticks _ _ (s .pre .0)
 
 duties : (s : tie.Start) → length (table s .duties) ≡ s .args .rd .duties
 duties s = table-duties (s .args .b .now) (s .args .rd)

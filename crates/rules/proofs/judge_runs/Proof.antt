@@ -2,9 +2,9 @@
 -- Assumes nothing.
 use Rattle.paper.specs.Words.{Table}
 use Rattle.paper.specs.Rules.{badOrder, overlaps, joins, twice, lowest, judgeRuns}
-use Rattle.form.specs.Formed.{tableOf}
-use Rattle.form.proofs.Table.{table-runs, table-duties, table-reading}
-use Rattle.rules.proofs.Through.{found-none, found-one}
+use Rattle.formed.specs.Formed.{tableOf}
+use Rattle.formed.proofs.Table.{table-runs, table-duties, table-reading}
+use Rattle.rules.proofs.Found.{found-none, found-one}
 use mathlib.Core.Path.{_≡_, ap}
 use mathlib.Core.Bool.{false}
 use lib.Dec.{ltb}
@@ -115,7 +115,7 @@ returns-6 c =
       unjoined (c .before .before .before .before .before),
       single (c .before .before .before),
       found-none (c .before .before .bad-sum .ensures) (duties (c .before .before .before .before .before .before .before .before .before .before .before .before .before)) (search needs),
-      table-reading _ _ (c .before .before .before .before .before .before .before .before .before .before .before .before .before .pre),
+      table-reading _ _ (c .before .before .before .before .before .before .before .before .before .before .before .before .before .pre .0),
     )
 
 pub judge-runs-spec : {M : Type 1} → statement M

@@ -5,10 +5,10 @@ use borrow.Author.Needs.{needs}
 use mathlib.Core.List.{[], _∷_}
 use Rattle.paper.specs.Answers.{counted}
 use Rattle.paper.proofs.Listed.{counted-listed}
-use Rattle.answers.specs.Told.{countAs}
+use Rattle.load_count.specs.Told.{countAs}
 use Rattle.tickplume.specs.Face.{countCall, entries}
 use Rattle.tickplume.proofs.Telling.{tell-short, tell-refused, tell-answer}
-use Rattle.tickplume.proofs.Stored.{stored-one}
+use Rattle.entries.proofs.Stored.{stored-one}
 use Rattle.tickplume.proofs.tickplume_count.Statement.{statement}
 use Rattle.tickplume.proofs.tickplume_count.Tie as tie
 

@@ -3,13 +3,12 @@
 use mathlib.Core.Path.{sym, ap, _∙_}
 use native.Mathlib.Omega.{arith}
 use borrow.Author.Needs.{needs}
-use lib.ListN.{length-set}
 use Rattle.paper.specs.Outcome.{judgedAs}
 use Rattle.paper.specs.Rules.{judged}
 use Rattle.paper.proofs.Listed.{judged-listed}
-use Rattle.tickplume.specs.Face.{judgeCall, readingEntries, entries}
+use Rattle.entries.specs.Entries.{readingEntries}
+use Rattle.tickplume.specs.Face.{judgeCall, entries}
 use Rattle.tickplume.proofs.Telling.{tell-short, tell-refused, tell-answer}
-use Rattle.tickplume.proofs.Stored.{stored-four}
 use Rattle.tickplume.proofs.tickplume_judge.Statement.{statement}
 use Rattle.tickplume.proofs.tickplume_judge.Tie as tie
 
@@ -40,29 +39,8 @@ refusal-requires-2 c κs =
 enum-known-rd : tie.Need-enum-known-rd
 enum-known-rd c = search needs
 
-cast-answer : tie.Need-cast-answer
-cast-answer c = search needs
-
-slice-write-answer : tie.Need-slice-write-answer
-slice-write-answer c = search needs
-
-cast-answer-2 : tie.Need-cast-answer-2
-cast-answer-2 c = search needs
-
-slice-write-answer-2 : tie.Need-slice-write-answer-2
-slice-write-answer-2 c = simp length-set (omega arith)
-
-cast-answer-3 : tie.Need-cast-answer-3
-cast-answer-3 c = search needs
-
-slice-write-answer-3 : tie.Need-slice-write-answer-3
-slice-write-answer-3 c = simp length-set (omega arith)
-
-cast-answer-4 : tie.Need-cast-answer-4
-cast-answer-4 c = search needs
-
-slice-write-answer-4 : tie.Need-slice-write-answer-4
-slice-write-answer-4 c = search needs
+put-reading-requires : tie.Need-put-reading-requires
+put-reading-requires c κs = search needs
 
 returns-2 : tie.Need-returns-2
 unfolding judgeCall
@@ -77,10 +55,9 @@ same-length c = search needs
 returns-3 : tie.Need-returns-3
 unfolding judgeCall
 returns-3 c =
-    let rd = c .before .before .before .before .before .rd .given .0 .0 in
-    let lent = c .before .before .before .before .before .before .before .before .before .before .before .args .answer .now in
-    tell-answer readingEntries (judged (c .before .before .before .before .before .before .before .before .before .before .before .args .table .now)) 4 rd lent _ (search needs) (sym (c .before .before .before .before .before .before .before .judge .ensures) ∙ ap judgedAs (c .before .before .before .before .before .rd .given .1))
-    (stored-four (rd .«block_length») (rd .engines) (rd .duties) (rd .runs) lent (search needs))
+    let args = c .before .before .before .before .before .before .before .before .before .before .before .args in
+    tell-answer readingEntries (judged (args .table .now)) 4 (c .before .before .before .before .before .rd .given .0 .0) (args .answer .now) _ (search needs)
+    (sym (c .before .before .before .before .before .before .before .judge .ensures) ∙ ap judgedAs (c .before .before .before .before .before .rd .given .1)) (c .before .before .put-reading .ensures)
 
 pub tickplume-judge-spec : {M : Type 1} → statement M
 tickplume-judge-spec =
@@ -94,14 +71,7 @@ tickplume-judge-spec =
     place-of-requires
     refusal-requires-2
     enum-known-rd
-    cast-answer
-    slice-write-answer
-    cast-answer-2
-    slice-write-answer-2
-    cast-answer-3
-    slice-write-answer-3
-    cast-answer-4
-    slice-write-answer-4
+    put-reading-requires
     returns-2
     same-length
     returns-3)

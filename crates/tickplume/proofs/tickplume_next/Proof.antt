@@ -3,7 +3,8 @@
 use borrow.Author.Needs.{needs}
 use Rattle.paper.specs.Answers.{advanced}
 use Rattle.paper.proofs.Listed.{next-listed}
-use Rattle.tickplume.specs.Face.{nextCall, stateEntries, stateIn, entries}
+use Rattle.tickplume.specs.Face.{nextCall, entries}
+use Rattle.entries.specs.Entries.{stateEntries, stateIn}
 use Rattle.tickplume.proofs.Telling.{tell-short, tell-refused, tell-answer}
 use Rattle.tickplume.proofs.Handing.{handed-refused, handed-done}
 use Rattle.tickplume.proofs.Cut.{next-asked}
@@ -19,8 +20,8 @@ returns c =
     let args = c .before .before .before .before .args in
     tell-short (entries stateEntries (advanced (args .table .now) (stateIn (args .state .now)))) 33 _ (args .state .now) (args .state .now) (search needs) (c .refusal .ensures)
 
-taken-requires : tie.Need-taken-requires
-taken-requires c κs = search needs
+dispatcher-in-requires : tie.Need-dispatcher-in-requires
+dispatcher-in-requires c κs = search needs
 
 next-requires : tie.Need-next-requires
 next-requires c κs = search needs
@@ -30,7 +31,7 @@ enum-known-verdict c = search needs
 
 refusal-requires-2 : tie.Need-refusal-requires-2
 refusal-requires-2 c κs =
-    let taken = c .before .before .before .before .taken in
+    let taken = c .before .before .before .before .dispatcher-in in
     let args = c .before .before .before .before .before .before .before .before .before .args in
     let o = advanced (args .table .now) (stateIn (args .state .now)) in
     let told = next-asked (args .table .now) (args .state .now) (taken .result) (taken .ensures .0) (taken .ensures .1) (c .before .before .before .next .ensures) in
@@ -40,8 +41,8 @@ refusal-requires-2 c κs =
 enum-told : tie.Need-enum-told
 enum-told c = search needs
 
-put-requires : tie.Need-put-requires
-put-requires c κs = search needs
+put-state-requires : tie.Need-put-state-requires
+put-state-requires c κs = search needs
 
 same-length : tie.Need-same-length
 same-length c = search needs
@@ -49,7 +50,7 @@ same-length c = search needs
 returns-2 : tie.Need-returns-2
 unfolding nextCall
 returns-2 c =
-    let taken = c .before .before .before .before .before .taken in
+    let taken = c .before .before .before .before .before .dispatcher-in in
     let args = c .before .before .before .before .before .before .before .before .before .before .args in
     let o = advanced (args .table .now) (stateIn (args .state .now)) in
     let told = next-asked (args .table .now) (args .state .now) (taken .result) (taken .ensures .0) (taken .ensures .1) (c .before .before .before .before .next .ensures) in
@@ -61,11 +62,11 @@ same-length-2 c = search needs
 returns-3 : tie.Need-returns-3
 unfolding nextCall
 returns-3 c =
-    let taken = c .before .before .before .before .before .before .before .before .taken in
+    let taken = c .before .before .before .before .before .before .before .before .dispatcher-in in
     let args = c .before .before .before .before .before .before .before .before .before .before .before .before .before .args in
     let o = advanced (args .table .now) (stateIn (args .state .now)) in
     let told = next-asked (args .table .now) (args .state .now) (taken .result) (taken .ensures .0) (taken .ensures .1) (c .before .before .before .before .before .before .before .next .ensures) in
-    tell-answer stateEntries o 33 _ (args .state .now) _ (search needs) (handed-done (c .before .before .before .before .before .before .before .next .result) o told (c .before .before .before .before .before .enum-told .given .1)) (c .before .before .put .ensures)
+    tell-answer stateEntries o 33 _ (args .state .now) _ (search needs) (handed-done (c .before .before .before .before .before .before .before .next .result) o told (c .before .before .before .before .before .enum-told .given .1)) (c .before .before .put-state .ensures)
 
 pub tickplume-next-spec : {M : Type 1} → statement M
 tickplume-next-spec =
@@ -73,12 +74,12 @@ tickplume-next-spec =
     (tie.spec
     refusal-requires
     returns
-    taken-requires
+    dispatcher-in-requires
     next-requires
     enum-known-verdict
     refusal-requires-2
     enum-told
-    put-requires
+    put-state-requires
     same-length
     returns-2
     same-length-2

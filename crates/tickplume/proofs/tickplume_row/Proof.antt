@@ -7,10 +7,11 @@ use Rattle.paper.specs.declared.Row.{Row}
 use Rattle.paper.specs.Words.{engine}
 use Rattle.paper.specs.Answers.{rowTold}
 use Rattle.paper.proofs.Listed.{row-listed}
-use Rattle.answers.specs.Told.{rowAs}
-use Rattle.tickplume.specs.Face.{rowCall, entries, needing, stateIn}
+use Rattle.dispatcher.specs.Told.{rowAs}
+use Rattle.tickplume.specs.Face.{rowCall, entries, needing}
+use Rattle.entries.specs.Entries.{stateIn}
 use Rattle.tickplume.proofs.Telling.{tell-short, tell-refused, tell-answer, tell-next}
-use Rattle.tickplume.proofs.Stored.{stored-one}
+use Rattle.entries.proofs.Stored.{stored-one}
 use Rattle.tickplume.proofs.Cut.{row-asked}
 use Rattle.tickplume.proofs.tickplume_row.Statement.{statement}
 use Rattle.tickplume.proofs.tickplume_row.Tie as tie
@@ -36,8 +37,8 @@ returns-2 c =
     tell-next 33 _ (args .state .now) (args .answer .now) (args .answer .now) (search needs)
     (tell-short (entries (λ (r : Row). r .0 ∷ []) o) 1 _ (args .answer .now) (args .answer .now) (search needs) (c .refusal2 .ensures))
 
-taken-requires : tie.Need-taken-requires
-taken-requires c κs = search needs
+dispatcher-in-requires : tie.Need-dispatcher-in-requires
+dispatcher-in-requires c κs = search needs
 
 row-requires : tie.Need-row-requires
 row-requires c κs = search needs
@@ -47,7 +48,7 @@ enum-known-number c = search needs
 
 refusal-requires-3 : tie.Need-refusal-requires-3
 refusal-requires-3 c κs =
-    let taken = c .before .before .before .before .taken in
+    let taken = c .before .before .before .before .dispatcher-in in
     let args = c .before .before .before .before .before .before .before .before .before .before .args in
     let told = row-asked (args .table .now) (args .state .now) (engine (args .engine)) (taken .result) (taken .ensures .0) (taken .ensures .1) (c .before .before .before .row .ensures) in
     let z = row-listed (args .table .now) (stateIn (args .state .now)) (engine (args .engine)) _ _ (sym told ∙ ap rowAs (c .before .number .given .1)) in
@@ -65,7 +66,7 @@ slice-write-answer c = search needs
 returns-3 : tie.Need-returns-3
 unfolding rowCall
 returns-3 c =
-    let taken = c .before .before .before .before .before .taken in
+    let taken = c .before .before .before .before .before .dispatcher-in in
     let args = c .before .before .before .before .before .before .before .before .before .before .before .args in
     let told = row-asked (args .table .now) (args .state .now) (engine (args .engine)) (taken .result) (taken .ensures .0) (taken .ensures .1) (c .before .before .before .before .row .ensures) in
     let o = rowTold (args .table .now) (stateIn (args .state .now)) (engine (args .engine)) in
@@ -78,7 +79,7 @@ same-length c = search needs
 returns-4 : tie.Need-returns-4
 unfolding rowCall
 returns-4 c =
-    let taken = c .before .before .before .before .before .taken in
+    let taken = c .before .before .before .before .before .dispatcher-in in
     let args = c .before .before .before .before .before .before .before .before .before .before .before .args in
     let told = row-asked (args .table .now) (args .state .now) (engine (args .engine)) (taken .result) (taken .ensures .0) (taken .ensures .1) (c .before .before .before .before .row .ensures) in
     let o = rowTold (args .table .now) (stateIn (args .state .now)) (engine (args .engine)) in
@@ -93,7 +94,7 @@ tickplume-row-spec =
     returns
     refusal-requires-2
     returns-2
-    taken-requires
+    dispatcher-in-requires
     row-requires
     enum-known-number
     refusal-requires-3

@@ -3,7 +3,8 @@
 use borrow.Author.Needs.{needs}
 use Rattle.paper.specs.Answers.{start}
 use Rattle.paper.proofs.Listed.{start-listed}
-use Rattle.tickplume.specs.Face.{startCall, stateEntries, entries}
+use Rattle.tickplume.specs.Face.{startCall, entries}
+use Rattle.entries.specs.Entries.{stateEntries}
 use Rattle.tickplume.proofs.Telling.{tell-short, tell-refused, tell-answer}
 use Rattle.tickplume.proofs.Handing.{handed-refused, handed-done}
 use Rattle.tickplume.proofs.tickplume_start.Statement.{statement}
@@ -35,8 +36,8 @@ refusal-requires-2 c κs =
 enum-told : tie.Need-enum-told
 enum-told c = search needs
 
-put-requires : tie.Need-put-requires
-put-requires c κs = search needs
+put-state-requires : tie.Need-put-state-requires
+put-state-requires c κs = search needs
 
 returns-2 : tie.Need-returns-2
 unfolding startCall
@@ -55,7 +56,7 @@ returns-3 c =
     let args = c .before .before .before .before .before .before .before .before .before .before .before .args in
     let o = start (args .table .now) (args .block) in
     let done = c .before .before .before .before .before .before .before .start in
-    tell-answer stateEntries o 33 _ (args .state .now) _ (search needs) (handed-done (done .result) o (done .ensures) (c .before .before .before .before .before .enum-told .given .1)) (c .before .before .put .ensures)
+    tell-answer stateEntries o 33 _ (args .state .now) _ (search needs) (handed-done (done .result) o (done .ensures) (c .before .before .before .before .before .enum-told .given .1)) (c .before .before .put-state .ensures)
 
 pub tickplume-start-spec : {M : Type 1} → statement M
 tickplume-start-spec =
@@ -67,7 +68,7 @@ tickplume-start-spec =
     enum-known-verdict
     refusal-requires-2
     enum-told
-    put-requires
+    put-state-requires
     returns-2
     same-length
     returns-3)

@@ -1,0 +1,14 @@
+-- `done`: the rows of the block are filled in.
+-- Assumes nothing.
+use borrow.Author.Needs.{needs}
+use Rattle.dispatcher.proofs.done.Statement.{statement}
+use Rattle.dispatcher.proofs.done.Tie as tie
+
+rows-at-requires : tie.Need-rows-at-requires
+rows-at-requires c κs = search needs
+
+returns : tie.Need-returns
+returns c = rw (c .rows-at .ensures)
+
+pub done-spec : {M : Type 1} → statement M
+done-spec = tie.close (tie.spec rows-at-requires returns)

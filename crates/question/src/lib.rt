@@ -1,0 +1,62 @@
+// The direct question: which duty an engine runs at a tick, and on which row. The bytes are judged first; after that one search
+// for the run that holds the unit is all that looks at the runs, whatever the tick.
+ghost use mathlib.Core.Path.{_≡_};
+ghost use Rattle.paper.specs.Answers.{question};
+ghost use Rattle.formed.specs.Formed.{Formed, tableOf};
+ghost use Rattle.tally.specs.Tally.{startsOf, endsOf};
+ghost use Rattle.question.specs.Told.{answerAs, replyOf};
+use holders::held;
+use judge::number_of;
+use judge::place_of;
+use judge::rule_on;
+use paper::Engine;
+use paper::Held;
+use paper::Judged;
+use paper::Reading;
+use paper::Row;
+use rotation::row_in;
+
+// The duty and the row, or idle with the row; else the refusal's number and place.
+pub enum Answer {
+    Serves(u32, Row),
+    Idle(Row),
+    Refused(u32, usize),
+}
+
+// What an engine runs at a tick of a table, by what holds the first and the last unit of each of its rows.
+fn reply(
+    b: &[u8],
+    rd: Reading,
+    starts: &[u32; 33],
+    ends: &[u32; 33],
+    engine: Engine,
+    tick: u64,
+) -> Answer
+    requires { ⌜ Formed (now b) rd ⌝ }
+    requires { ⌜ (now starts ≡ startsOf (tableOf (now b) rd)) × (now ends ≡ endsOf (tableOf (now b) rd)) ⌝ }
+    ensures { λ r. ⌜ answerAs r ≡ replyOf (tableOf (now (b .entry)) rd) engine tick ⌝ }
+{
+    if rd.engines <= engine.0 {
+        return Answer::Refused(18, 0);
+    }
+    let t = rd.block_length as u64;
+    let row = row_in(starts, ends, engine, tick / t);
+    match held(b, rd, row, (tick % t) as u32) {
+        Held::By(duty) => Answer::Serves(duty, row),
+        Held::Idle => Answer::Idle(row),
+    }
+}
+
+// What an engine runs at a tick, and on which row.
+pub fn question(b: &[u8], engine: Engine, tick: u64) -> Answer
+    ensures { λ r. ⌜ answerAs r ≡ question (now (b .entry)) engine tick ⌝ }
+{
+    let ruling = rule_on(b);
+    let starts = ruling.starts;
+    let ends = ruling.ends;
+    let judged = ruling.judged;
+    match judged {
+        Judged::Accepted(rd) => reply(b, rd, &starts, &ends, engine, tick),
+        Judged::Bad(fault) => Answer::Refused(number_of(fault), place_of(fault)),
+    }
+}

@@ -1,0 +1,2 @@
+pub mod Edged
+pub mod Tallied

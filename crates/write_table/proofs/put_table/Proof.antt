@@ -1,0 +1,128 @@
+-- `put_table`: the head over the front, then duties, runs and end, each behind the last.
+-- Assumes nothing.
+use Prim.Native.Nat.{ℕ, _+_, _*_}
+use mathlib.Core.Path.{sym, ap, _∙_}
+use mathlib.Core.List.{List}
+use native.Mathlib.Omega.{arith}
+use lib.ListN.{length}
+use Rattle.laws.specs.Lists.{flat, over}
+use Rattle.paper.specs.Sa1.{slices}
+use Rattle.paper.specs.Bytes.{dutyBytes, endBytes}
+use Rattle.paper.specs.Builder.{dutiesOf}
+use Rattle.write_records.specs.Head.{headOf}
+use Rattle.places.specs.Laying.{laidFrom, corner}
+use Rattle.write_runs.specs.RunBytes.{runsBytes}
+use Rattle.write_runs.proofs.RunBytes.{runs-bytes}
+use Rattle.duties.proofs.Duties.{duties-length}
+use Rattle.write_table.proofs.Table.{duties-bytes, table-is, head-of-length, parts-written}
+use borrow.Author.Needs.{needs}
+use Rattle.write_table.proofs.put_table.Statement.{statement}
+use Rattle.write_table.proofs.put_table.Tie as tie
+
+cast-put-head : tie.Need-cast-put-head
+cast-put-head c = search needs
+
+put-head-requires : tie.Need-put-head-requires
+put-head-requires c κs = search needs
+
+sub-put-duties : tie.Need-sub-put-duties
+sub-put-duties c = search needs
+
+part-put-duties-start : tie.Need-part-put-duties-start
+part-put-duties-start c = search needs
+
+part-put-duties-end : tie.Need-part-put-duties-end
+part-put-duties-end c = search needs
+
+put-duties-requires : tie.Need-put-duties-requires
+put-duties-requires c κs = search needs
+
+mul-runs-start : tie.Need-mul-runs-start
+mul-runs-start c = search needs
+
+add-runs-start : tie.Need-add-runs-start
+add-runs-start c = search needs
+
+sub-put-runs : tie.Need-sub-put-runs
+sub-put-runs c = search needs
+
+part-put-runs-start : tie.Need-part-put-runs-start
+part-put-runs-start c = search needs
+
+part-put-runs-end : tie.Need-part-put-runs-end
+part-put-runs-end c = search needs
+
+put-runs-requires : tie.Need-put-runs-requires
+put-runs-requires c κs = search needs
+
+mul-end : tie.Need-mul-end
+mul-end c = search needs
+
+add-end : tie.Need-add-end
+add-end c = search needs
+
+sub-put-end : tie.Need-sub-put-end
+sub-put-end c = search needs
+
+part-put-end-start : tie.Need-part-put-end-start
+part-put-end-start c = search needs
+
+part-put-end-end : tie.Need-part-put-end-end
+part-put-end-end c = search needs
+
+cast-put-end : tie.Need-cast-put-end
+cast-put-end c = search needs
+
+put-end-requires : tie.Need-put-end-requires
+put-end-requires c κs = search needs
+
+same-length : tie.Need-same-length
+same-length c = search needs
+
+returns : tie.Need-returns
+returns c =
+    let args = c .before .before .before .before .before .before .before .before .before .before .before .before .before .before .before .before .before .before .before .args in
+    let pre = c .before .before .before .before .before .before .before .before .before .before .before .before .before .before .before .before .before .before .before .pre in
+    let t = args .t in
+    let m = args .engines in
+    let ss = args .services .now in
+    let ps = args .periods .now in
+    let ds = dutiesOf ss ps in
+    let n = length ss in
+    let runs = args .runs in
+    let out = args .out .now in
+    let D = flat dutyBytes ds in
+    let laid = laidFrom t (slices t ds) 0 corner in
+    let head = c .before .before .before .before .before .before .before .before .before .before .before .before .before .before .put-head in
+    let duties = c .before .before .before .before .before .before .before .before .before .before .put-duties in
+    let placed = c .before .before .before .before .before .before .put-runs in
+    let end = c .before .before .put-end in
+    parts-written (headOf t m n) D (runsBytes laid) (endBytes runs) out (head .last .0) (duties .last .0) (placed .last .0) (end .last .0) 7 (7 + 9 * n) (7 + 9 * n + 11 * runs)
+    (head-of-length t m n) (omega (arith, duties-bytes ds, duties-length ss ps)) (omega (arith, runs-bytes laid, pre .1)) (head .ensures) (duties .ensures) (placed .ensures) (end .ensures)
+    ∙ ap (λ (w : List ℕ). over w out) (sym (table-is t m n runs ds (sym (duties-length ss ps)) (pre .1)))
+
+pub put-table-spec : {M : Type 1} → statement M
+put-table-spec =
+    tie.close
+    (tie.spec
+    cast-put-head
+    put-head-requires
+    sub-put-duties
+    part-put-duties-start
+    part-put-duties-end
+    put-duties-requires
+    mul-runs-start
+    add-runs-start
+    sub-put-runs
+    part-put-runs-start
+    part-put-runs-end
+    put-runs-requires
+    mul-end
+    add-end
+    sub-put-end
+    part-put-end-start
+    part-put-end-end
+    cast-put-end
+    put-end-requires
+    same-length
+    returns)
