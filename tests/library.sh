@@ -1,6 +1,6 @@
 #!/usr/bin/env bash
 # The library as its callers link it, natively on this machine: the C example (as C and as C++), the Rust crate's tests, the comparison
-# with the planner written apart, and the same comparison with errors planted, which must be seen.
+# with the planner written apart, and the same comparison with errors planted, which must be seen; and how much stack the calls use.
 set -u
 cd "$(dirname "$0")/.." || exit 2
 
@@ -24,6 +24,9 @@ g++ -std=c++17 -Wall -Wextra -Werror -pedantic -O1 -Iinclude -x c++ examples/sim
 for program in simulator simulator++; do
     "$build/$program" | diff -u tests/expected/simulator - || { echo "the C example writes something else ($program)"; exit 1; }
 done
+
+gcc -std=c11 -Wall -Wextra -Werror -O1 -Iinclude tests/stack.c -Ltarget/native -ltickplume -pthread -o "$build/stack" || exit 1
+"$build/stack" || { echo "a call was refused, or uses too much stack"; exit 1; }
 
 (cd rust && cargo test --offline --release -q 2>&1) || exit 1
 for program in boundaries stretches; do

@@ -197,9 +197,12 @@ pub fn judge(b: &[u8]) -> Result<Plan, Refused> {
             return Err((16, k as u64));
         }
     }
+    let mut units = [0u64; 64];
+    for x in runs {
+        units[x.duty as usize] += x.length as u64;
+    }
     for (i, &(c, d)) in duties[..n as usize].iter().enumerate() {
-        let units: u64 = runs.iter().filter(|x| x.duty == i as u32).map(|x| x.length as u64).sum();
-        if units != t as u64 * c as u64 / d as u64 {
+        if units[i] != t as u64 * c as u64 / d as u64 {
             return Err((17, i as u64));
         }
     }

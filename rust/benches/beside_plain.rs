@@ -43,7 +43,7 @@ fn beside(name: &str, times: usize, mut ours: impl FnMut(), mut theirs: impl FnM
         v[(v.len() - 1) * q / 4]
     };
     println!(
-        "| {name} | {:.0} | {:.0} | {:.2} | {:.2} to {:.2} |",
+        "| {name} | {:.1} | {:.1} | {:.2} | {:.2} to {:.2} |",
         at(&mut a, 2),
         at(&mut b, 2),
         at(&mut ratios, 2),
@@ -94,6 +94,19 @@ fn table_of(runs: usize) -> Vec<u8> {
 fn main() {
     println!("| call | library, ns | plain Rust, ns | ratio | middle half |");
     println!("|---|---|---|---|---|");
+    // what a call costs by itself: no engines are refused before a duty is looked at
+    let (_, services, periods) = duties(1);
+    let (mut out, mut other) = (vec![0u8; 2000], vec![0u8; 2000]);
+    beside(
+        "build, refused at once",
+        100_000,
+        || {
+            let _ = black_box(calls::build(black_box(0), black_box(&services), black_box(&periods), &mut out));
+        },
+        || {
+            let _ = black_box(plain::build(black_box(0), black_box(&services), black_box(&periods), &mut other));
+        },
+    );
     for n in [1, 8, 64] {
         let (engines, services, periods) = duties(n);
         let (mut out, mut other) = (vec![0u8; 2000], vec![0u8; 2000]);

@@ -20,6 +20,8 @@ use sets::Set;
 use std::collections::BTreeSet;
 use tickplume::{calls, Engine, Held, Refusal};
 
+const SHARES: u64 = 8;
+
 #[derive(Default)]
 struct Seen {
     sets: u64,
@@ -195,9 +197,24 @@ fn compare_refusals(seen: &mut Seen, random: &mut Random, table: &[u8], state: &
     Ok(())
 }
 
-fn run(sets: u64, turn: Turn) -> Result<Seen, String> {
+impl Seen {
+    fn add(&mut self, other: Seen) {
+        self.sets += other.sets;
+        self.tables += other.tables;
+        self.accepted += other.accepted;
+        self.questions += other.questions;
+        self.counts += other.counts;
+        self.states += other.states;
+        self.refusals.extend(other.refusals);
+        self.chains.extend(other.chains);
+        self.block_lengths.extend(other.block_lengths);
+    }
+}
+
+/// So many sets, drawn from a seed.
+fn share(seed: u64, sets: u64, turn: Turn) -> Result<Seen, String> {
     let mut seen = Seen::default();
-    let mut random = Random::new(2004);
+    let mut random = Random::new(seed);
     for k in 0..sets {
         let set = match k % 8 {
             0..=2 => sets::whole_set(&mut random, 24),
@@ -208,6 +225,19 @@ fn run(sets: u64, turn: Turn) -> Result<Seen, String> {
         compare_set(&mut seen, &mut random, &set, turn)?;
     }
     Ok(seen)
+}
+
+/// All sets, in shares that run side by side; each share has a seed of its own, so what is compared does not depend on the machine.
+fn run(sets: u64, turn: Turn) -> Result<Seen, String> {
+    let shares: Vec<_> = std::thread::scope(|scope| {
+        let started: Vec<_> = (0..SHARES).map(|k| scope.spawn(move || share(2004 + k, sets / SHARES, turn))).collect();
+        started.into_iter().map(|one| one.join().expect("a share that ends")).collect()
+    });
+    let mut all = Seen::default();
+    for one in shares {
+        all.add(one?);
+    }
+    Ok(all)
 }
 
 fn main() {
