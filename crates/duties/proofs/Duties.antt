@@ -1,4 +1,4 @@
--- The duties of two lists: how many there are, which one stands where, their block length, and what is left of them and of
+-- The duties of two lists: which one stands where, their block length, and what is left of them and of
 -- their slices. A duty of the lists is made of the entries at its index, so each is a law of `tab` and `map`.
 -- Assumes nothing.
 use Prim.Native.Nat.{ℕ, _+_, _≤_, _<_}
@@ -9,17 +9,13 @@ use native.Mathlib.Omega.{arith}
 use lib.ListN.{length, getD, drop, drop-of-length-le, length-map}
 use lib.Seq.{drop-cons}
 use Rattle.laws.specs.Divisor.{gcdOf}
-use Rattle.laws.specs.Lists.{tab, sumOf}
-use Rattle.laws.proofs.Lists.{length-tab, getD-tab, map-tab, tab-getD, drop-map, sumOf-step, sumOf-done}
+use Rattle.laws.specs.Lists.{sumOf}
+use Rattle.laws.proofs.Lists.{getD-tab, drop-map, sumOf-step, sumOf-done}
 use Rattle.paper.specs.declared.Duty.{Duty}
 use Rattle.paper.specs.Words.{duty, dutyAt, slice, blockLengthOf}
 use Rattle.paper.specs.Sa1.{slices}
 use Rattle.paper.specs.Builder.{dutiesOf}
-
--- there are as many as services
-pub duties-length : (ss ps : List ℕ) → length (dutiesOf ss ps) ≡ length ss
-unfolding dutiesOf
-duties-length ss ps = length-tab (length ss) (λ d. duty (getD ss d 0) (getD ps d 0))
+use Rattle.paper.proofs.Planned.{periods-back}
 
 -- duty i has the entries at i
 pub duty-is : (ss ps : List ℕ) (i : ℕ) → i < length ss → dutyAt (dutiesOf ss ps) i ≡ duty (getD ss i 0) (getD ps i 0)
@@ -28,12 +24,8 @@ duty-is ss ps i h = getD-tab (length ss) (λ d. duty (getD ss d 0) (getD ps d 0)
 
 -- their block length is the greatest common divisor of the periods
 pub block-length-is : (ss ps : List ℕ) → length ss ≡ length ps → blockLengthOf (dutiesOf ss ps) ≡ gcdOf ps
-unfolding dutiesOf blockLengthOf
-block-length-is ss ps e =
-    ap gcdOf
-    (map-tab (λ x. x .period) (length ss) (λ d. duty (getD ss d 0) (getD ps d 0))
-    ∙ ap (λ (n : ℕ). tab n (λ d. getD ps d 0)) e
-    ∙ tab-getD ps 0)
+unfolding blockLengthOf
+block-length-is ss ps e = ap gcdOf (periods-back ss ps e)
 
 -- the slices that are left at index i begin with duty i's; after the last duty none is left
 pub slices-left :

@@ -1,12 +1,12 @@
--- One, two or four entries stored one after the other stand over the front of the list; and so does a first entry with others after it.
+-- One, two or four entries stored one after the other stand over the front of the list.
 -- Assumes nothing.
 use Prim.Native.Nat.{ℕ, _≤_}
-use mathlib.Core.Path.{_≡_, refl}
+use mathlib.Core.Path.{_≡_}
 use mathlib.Core.List.{List, [], _∷_}
 use native.Mathlib.Omega.{arith}
-use lib.ListN.{length, getD, set}
+use lib.ListN.{length, set}
 use Rattle.laws.specs.Lists.{over}
-use Rattle.laws.proofs.Writing.{Wrote, start, stored, done}
+use Rattle.laws.proofs.Writing.{start, stored, done}
 
 pub stored-one : (x : ℕ) (l : List ℕ) → 1 ≤ length l → set l 0 x ≡ over (x ∷ []) l
 stored-one x l h = done (x ∷ []) l (set l 0 x) 1 (stored (x ∷ []) l [] l x 0 (start (x ∷ []) l) (omega arith))
@@ -23,15 +23,3 @@ stored-four x y z v l h =
     let two = stored w l (z ∷ v ∷ []) (set l 0 x) y 1 one (omega arith) in
     let three = stored w l (v ∷ []) (set (set l 0 x) 1 y) z 2 two (omega arith) in
     done w l (set (set (set (set l 0 x) 1 y) 2 z) 3 v) 4 (stored w l [] (set (set (set l 0 x) 1 y) 2 z) v 3 three (omega arith))
-
--- a list whose first entry stands for what is written first
-pub opened : (rest l : List ℕ) → 1 ≤ length l → Wrote (getD l 0 0 ∷ rest) l rest l 1
-unfolding over
-opened rest [] h = absurd (omega arith)
-opened rest (x ∷ xs) h = record { w = x ∷ []; len = refl; is = refl; left = refl }
-
--- a first entry, stored, and the others written after it: all of them over the front
-pub opened-over : (x : ℕ) (rest l : List ℕ) → 1 ≤ length l → over (getD (set l 0 x) 0 0 ∷ rest) (set l 0 x) ≡ over (x ∷ rest) l
-unfolding over
-opened-over x rest [] h = absurd (omega arith)
-opened-over x rest (y ∷ l) h = refl

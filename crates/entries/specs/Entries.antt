@@ -1,12 +1,10 @@
--- Answers and states as entries of a lent list.
-use Prim.Native.Nat.{ℕ, _+_, _-_, _^_}
+-- Answers as entries of a lent list.
+use Prim.Native.Nat.{ℕ, _-_, _^_}
 use mathlib.Core.List.{List, [], _∷_}
-use lib.ListN.{getD}
-use Rattle.laws.specs.Lists.{tab}
 use Rattle.paper.specs.declared.Reading.{Reading}
 use Rattle.paper.specs.declared.Held.{Held}
 use Rattle.paper.specs.declared.Held.the-variants.{Idle, By}
-use Rattle.paper.specs.Answers.{Reply, State}
+use Rattle.paper.specs.Answers.{Reply}
 
 -- the judge: block length, engines, duties, runs
 abbrev pub readingEntries : Reading → List ℕ
@@ -19,11 +17,3 @@ heldEntry (By i) = i
 
 abbrev pub replyEntries : Reply → List ℕ
 replyEntries r = r .row .0 ∷ heldEntry (r .held) ∷ []
-
--- the dispatcher's state: the block, then 32 rows
-abbrev pub stateEntries : State → List ℕ
-stateEntries s = s .block ∷ s .rows
-
--- and the state in such entries
-abbrev pub stateIn : List ℕ → State
-stateIn l = record { block = getD l 0 0; rows = tab 32 (λ e. getD l (e + 1) 0) }

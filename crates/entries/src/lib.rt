@@ -1,11 +1,9 @@
-// What the outside face hands over and takes: words, and the entries of lent answers and states.
+// What the outside face hands over: words, and the entries of lent answers.
 ghost use mathlib.Core.Path.{_≡_};
 ghost use Prim.Native.Nat.{_+_, _*_, _≤_, _<_, min};
-ghost use lib.ListN.{length, getD};
-ghost use Rattle.laws.specs.Lists.{over, tab};
-ghost use Rattle.entries.specs.Entries.{readingEntries, heldEntry, replyEntries, stateEntries};
-ghost use Rattle.dispatcher.specs.Told.{stateAs};
-use dispatcher::Dispatcher;
+ghost use lib.ListN.{length};
+ghost use Rattle.laws.specs.Lists.{over};
+ghost use Rattle.entries.specs.Entries.{readingEntries, heldEntry, replyEntries};
 use paper::Held;
 use paper::Reading;
 use paper::Row;
@@ -19,41 +17,10 @@ pub fn refusal(number: u32, place: usize) -> u64
 }
 
 // An entry of a lent state as a row number; one that is too large becomes a number that no row has.
-fn narrow(x: u64) -> u32
+pub fn narrow(x: u64) -> u32
     ensures { λ r. ⌜ r ≡ min x 4294967295 ⌝ }
 {
     if x < 4294967295 { x as u32 } else { 4294967295 }
-}
-
-// The dispatcher in a lent state.
-pub fn dispatcher_in(state: &[u64]) -> Dispatcher
-    requires { ⌜ 33 ≤ length (now state) ⌝ }
-    ensures { λ r. ⌜ (r .block ≡ getD (now (state .entry)) 0 0) × (r .rows ≡ tab 32 (λ e. min (getD (now (state .entry)) (e + 1) 0) 4294967295)) ⌝ }
-{
-    let mut rows = [0u32; 32];
-    let mut e = 0;
-    while e < 32 {
-        rows[e] = narrow(state[e + 1]);
-        e += 1;
-    }
-    Dispatcher {
-        block: state[0],
-        rows,
-    }
-}
-
-// The dispatcher put into a lent state: the block, then the rows.
-pub fn put_state(state: &mut [u64], d: Dispatcher)
-    requires { ⌜ 33 ≤ length (now state) ⌝ }
-    ensures { λ r. ⌜ now (state .exit) ≡ over (stateEntries (stateAs d)) (now (state .entry)) ⌝ }
-{
-    let rows = d.rows;
-    state[0] = d.block;
-    let mut e = 0;
-    while e < 32 {
-        state[e + 1] = rows[e] as u64;
-        e += 1;
-    }
 }
 
 // A table's reading put into a lent answer: block length, engines, duties, runs.

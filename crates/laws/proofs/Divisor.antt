@@ -4,7 +4,7 @@
 use Prim.Native.Nat.{ℕ, zero, suc, _+_, _-_, _%_, _≤_, _<_, _∣_}
 use mathlib.Core.Path.{_≡_, refl, sym, ap, _∙_}
 use mathlib.Core.List.{List, [], _∷_}
-use native.Mathlib.Nat.{mod-lt, dvd-refl, dvd-zero, dvd-trans, dvd-mod-iff, dvd-antisymm, zero-lt-suc, not-suc-le-zero, le-of-suc-le-suc, pos-of-dvd-of-pos}
+use native.Mathlib.Nat.{mod-lt, dvd-refl, dvd-zero, dvd-trans, dvd-mod-iff, dvd-antisymm, zero-lt-suc, not-suc-le-zero, le-of-suc-le-suc}
 use native.Mathlib.Omega.{arith}
 use native.Mathlib.Numerals.{add-one}
 use lib.ListN.{length, getD, drop, drop-of-length-le}
@@ -99,10 +99,6 @@ pub gcdOf-greatest : (xs : List ℕ) (d : ℕ) → ((k : ℕ) → k < length xs 
 unfolding gcdOf
 gcdOf-greatest [] d h = dvd-zero d
 gcdOf-greatest (x ∷ xs) d h = gcd-greatest x (gcdOf xs) d (h 0 (omega arith)) (gcdOf-greatest xs d (λ k l. h (suc k) (omega arith)))
-
--- where some entry is above 0, so is it
-pub gcdOf-positive : (xs : List ℕ) (k : ℕ) → k < length xs → 0 < getD xs k 0 → 0 < gcdOf xs
-gcdOf-positive xs k h p = pos-of-dvd-of-pos (gcdOf-divides xs k h) p
 
 -- a loop that goes through a list from its front keeps gcd g (gcdOf of what is left)
 pub gcd-through : (g x : ℕ) (xs : List ℕ) → gcd g (gcdOf (x ∷ xs)) ≡ gcd (gcd g x) (gcdOf xs)

@@ -4,7 +4,7 @@ ghost use Prim.Native.Nat.{_≤_, _<_};
 ghost use lib.ListN.{length};
 ghost use Rattle.paper.specs.Bytes.{mostTicks};
 ghost use Rattle.paper.specs.Text.{printLine, planWord, dutyWord, runLine, chainWord, loadsWord, refusedWord};
-ghost use Rattle.print_lines.specs.Puts.{Puts};
+ghost use Rattle.print_numbers.specs.Puts.{Puts};
 use paper::Duty;
 use paper::Reading;
 use paper::Run;

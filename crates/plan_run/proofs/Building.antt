@@ -12,12 +12,13 @@ use Rattle.paper.specs.Bytes.{small, encode}
 use Rattle.paper.specs.Builder.{plan, fitted, build}
 use Rattle.paper.specs.Rules.{accepted}
 use Rattle.paper.specs.Text.{printLine, refusedWord, printed}
+use Rattle.paper.proofs.Outcomes.{answer-one, then-refused, then-answer}
 use Rattle.paper.proofs.Bytes.{length-encode}
 use Rattle.paper.proofs.Planned.{planned-ranged, planned-accepted}
-use Rattle.builder.specs.declared.Built.{Built}
-use Rattle.builder.specs.declared.Built.the-variants.{Length, Refused}
-use Rattle.builder.specs.Built.{builtAs}
-use Rattle.print_lines.specs.Puts.{Puts}
+use Rattle.build_at.specs.declared.Built.{Built}
+use Rattle.build_at.specs.declared.Built.the-variants.{Length, Refused}
+use Rattle.build_at.specs.Built.{builtAs}
+use Rattle.print_numbers.specs.Puts.{Puts}
 use Rattle.plan_text.proofs.Fitting.{fitted-room, front-is}
 
 -- what is printed by another name
@@ -43,33 +44,30 @@ module _ (m : ℕ) (ss ps : List ℕ) where
 
   -- a refusal is the plan's
   pub build-refused : (n p : ℕ) {r : Built} → r ≡ Refused n p → builtAs r ≡ lengthOf (build m ss ps 2048) → plan m ss ps ≡ refused n p
-  build-refused n p told h = go (plan m ss ps) refl (sym (ap builtAs told) ∙ h ∙ ap lengthOf (build-is (plan m ss ps) refl))
-    where
-      go : (o : Outcome Table) → plan m ss ps ≡ o → refused n p ≡ lengthOf (andThen o (λ t. answer (encode small t))) → plan m ss ps ≡ refused n p
-      go (refused n′ p′) e q = cc
-      go (answer t) e q = let z : _≡_ {A = ℕ} 0 1 = cc in absurd (omega arith)
+  build-refused n p told h =
+      then-refused (plan m ss ps) (encode small) n p
+      (sym (build-is (plan m ss ps) refl) ∙ then-refused (build m ss ps 2048) length n p (sym h ∙ ap builtAs told))
+
+  -- a length is that of the plan's bytes
+  built-plan : (size : ℕ) {r : Built} → r ≡ Length size → builtAs r ≡ lengthOf (build m ss ps 2048) → (t : Table) × (plan m ss ps ≡ answer t) × (size ≡ length (encode small t))
+  built-plan size told h =
+      let whole = then-answer (build m ss ps 2048) (λ w. answer (length w)) size (sym h ∙ ap builtAs told) in
+      let planned = then-answer (plan m ss ps) (λ t. answer (encode small t)) (whole .0) (sym (build-is (plan m ss ps) refl) ∙ whole .1) in
+      (planned .0, planned .1, sym (answer-one _ _ (whole .2)) ∙ ap length (sym (answer-one _ _ (planned .2))))
 
   -- what is built has room
   pub build-size : (size : ℕ) {r : Built} → r ≡ Length size → builtAs r ≡ lengthOf (build m ss ps 2048) → size ≤ 2048
-  build-size size told h = go (plan m ss ps) refl (sym (ap builtAs told) ∙ h ∙ ap lengthOf (build-is (plan m ss ps) refl))
-    where
-      go : (o : Outcome Table) → plan m ss ps ≡ o → answer size ≡ lengthOf (andThen o (λ t. answer (encode small t))) → size ≤ 2048
-      go (refused n p) e q = let z : _≡_ {A = ℕ} 0 1 = cc in absurd (omega arith)
-      go (answer t) e q =
-          let s : size ≡ length (encode small t) = cc in
-          let g = planned-ranged m ss ps t e in
-          omega (arith, length-encode small t, g .duties-most, g .runs-most)
+  build-size size told h =
+      let p = built-plan size told h in
+      let g = planned-ranged m ss ps (p .0) (p .1) in
+      omega (arith, p .2, length-encode small (p .0), g .duties-most, g .runs-most)
 
   -- what is built, cut to the length that is told, is accepted as the plan
   pub build-printed : (size : ℕ) {r : Built} (l xs : List ℕ) → r ≡ Length size → builtAs r ≡ lengthOf (build m ss ps 2048) → xs ≡ leaves (build m ss ps 2048) l
       → printed (accepted (take size xs)) ≡ printed (plan m ss ps)
   build-printed size l xs told h w =
-      go (plan m ss ps) refl (sym (ap builtAs told) ∙ h ∙ ap lengthOf (build-is (plan m ss ps) refl)) (w ∙ ap (λ o. leaves o l) (build-is (plan m ss ps) refl))
-    where
-      go : (o : Outcome Table) → plan m ss ps ≡ o → answer size ≡ lengthOf (andThen o (λ t. answer (encode small t)))
-          → xs ≡ leaves (andThen o (λ t. answer (encode small t))) l → printed (accepted (take size xs)) ≡ printed (plan m ss ps)
-      go (refused n p) e q r = let z : _≡_ {A = ℕ} 0 1 = cc in absurd (omega arith)
-      go (answer t) e q r =
-          let s : size ≡ length (encode small t) = cc in
-          ap (λ b. printed (accepted b)) (front-is size (encode small t) l xs s r)
-          ∙ ap printed (planned-accepted m ss ps t e ∙ sym e)
+      let p = built-plan size told h in
+      let bytes = encode small (p .0) in
+      let laid = w ∙ ap (λ o. leaves o l) (build-is (answer (p .0)) (p .1)) in
+      ap (λ b. printed (accepted b)) (front-is size bytes l xs (p .2) laid)
+      ∙ ap printed (planned-accepted m ss ps (p .0) (p .1) ∙ sym (p .1))

@@ -8,7 +8,7 @@ ghost use Rattle.paper.specs.Builder.{fitted};
 ghost use Rattle.formed.specs.Formed.{tableOf};
 ghost use Rattle.tally.specs.Tally.{startsOf, endsOf};
 ghost use Rattle.judge.specs.Ready.{Ready};
-ghost use Rattle.print_lines.specs.Puts.{Puts};
+ghost use Rattle.print_numbers.specs.Puts.{Puts};
 ghost use Rattle.plan_text.specs.Told.{textAs};
 use judge::number_of;
 use judge::place_of;

@@ -10,9 +10,9 @@ use Rattle.laws.proofs.Each.{Each, each-map}
 use Rattle.laws.proofs.Writing.{Wrote}
 use Rattle.laws.proofs.Listing.{flat-most}
 use Rattle.paper.specs.Text.{printLine}
-use Rattle.print_lines.specs.Spaced.{spaced}
-use Rattle.print_lines.specs.Puts.{Puts}
-use Rattle.print_lines.proofs.Decimal.{count-most}
+use Rattle.print_numbers.specs.Spaced.{spaced}
+use Rattle.print_numbers.specs.Puts.{Puts}
+use Rattle.print_numbers.proofs.Decimal.{count-most}
 
 -- where the word stands, the numbers and the line feed are left
 pub word-written : (word numbers l xs : List ℕ) → xs ≡ over word l → Wrote (printLine word numbers) l (flat spaced numbers ++ (10 ∷ [])) xs (length word)

@@ -1,43 +1,13 @@
 // A printed line: a word, then each number after a space, in decimal, and a line feed. It is written at the front of a
 // lent rest, and the writer tells how many bytes it took.
-ghost use mathlib.Core.Path.{_≡_};
 ghost use Prim.Native.Nat.{_≤_};
 ghost use lib.ListN.{length};
 ghost use Rattle.laws.specs.Lists.{flat};
-ghost use Rattle.paper.specs.Text.{decimal, printLine};
-ghost use Rattle.print_lines.specs.Puts.{Puts};
-ghost use Rattle.print_lines.specs.Spaced.{spaced};
+ghost use Rattle.paper.specs.Text.{printLine};
+ghost use Rattle.print_numbers.specs.Puts.{Puts};
+ghost use Rattle.print_numbers.specs.Spaced.{spaced};
+use print_numbers::put_number;
 use write_records::put_bytes;
-
-// How many digits a number has in decimal.
-fn digit_count(n: u64) -> usize
-    ensures { λ r. ⌜ (r ≡ length (decimal n)) × (r ≤ 20) ⌝ }
-{
-    let mut count = 1;
-    let mut left = n;
-    while 10 <= left {
-        left /= 10;
-        count += 1;
-    }
-    count
-}
-
-// A space and a number: the digits are stored from the last to the first.
-fn put_number(out: &mut [u8], n: u64) -> usize
-    requires { ⌜ length (spaced n) ≤ length (now out) ⌝ }
-    ensures { λ r. ⌜ Puts (spaced n) (now (out .entry)) (now (out .exit)) r ⌝ }
-{
-    let count = digit_count(n);
-    let mut k = count;
-    let mut left = n;
-    while 0 < k {
-        out[k] = 48 + (left % 10) as u8;
-        left /= 10;
-        k -= 1;
-    }
-    out[0] = 32;
-    count + 1
-}
 
 // Each number after a space.
 fn put_numbers(out: &mut [u8], numbers: &[u64]) -> usize

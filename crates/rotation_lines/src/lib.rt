@@ -6,7 +6,7 @@ ghost use lib.ListN.{length};
 ghost use Rattle.paper.specs.Rotation.{firstOf};
 ghost use Rattle.rotation.specs.Links.{linkOf};
 ghost use Rattle.carried_over.specs.Carried.{carriedOf};
-ghost use Rattle.print_lines.specs.Puts.{Puts};
+ghost use Rattle.print_numbers.specs.Puts.{Puts};
 ghost use Rattle.rotation_lines.specs.Parts.{chainLinesBy, rotationLinesBy};
 use carried_over::carried;
 use paper::Row;

@@ -2,7 +2,7 @@
 ghost use Prim.Native.Nat.{_≤_};
 ghost use lib.ListN.{length};
 ghost use Rattle.formed.specs.Formed.{Formed, tableOf};
-ghost use Rattle.print_lines.specs.Puts.{Puts};
+ghost use Rattle.print_numbers.specs.Puts.{Puts};
 ghost use Rattle.table_lines.specs.Parts.{dutyLines, runLines, tableLines};
 use formed::duty_of;
 use formed::run_of;

@@ -10,9 +10,9 @@ use Rattle.paper.specs.Outcome.{Outcome, refused, answer, lengthOf, leaves}
 use Rattle.paper.specs.Builder.{build}
 use Rattle.paper.proofs.Listed.{build-listed}
 use Rattle.paper.proofs.Outcomes.{answered, answer-one, then-refused}
-use Rattle.builder.specs.declared.Built.{Built}
-use Rattle.builder.specs.declared.Built.the-variants.{Length, Refused}
-use Rattle.builder.specs.Built.{builtAs}
+use Rattle.build_at.specs.declared.Built.{Built}
+use Rattle.build_at.specs.declared.Built.the-variants.{Length, Refused}
+use Rattle.build_at.specs.Built.{builtAs}
 use Rattle.tickplume.specs.Face.{Told, buildCall, buildEntries}
 use Rattle.entries.proofs.Stored.{stored-one}
 

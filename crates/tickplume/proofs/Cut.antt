@@ -25,7 +25,7 @@ use Rattle.paper.proofs.Links.{closed, rows-end}
 use Rattle.paper.proofs.Rotation.{row-below}
 use Rattle.dispatcher.specs.declared.Dispatcher.{Dispatcher}
 use Rattle.dispatcher.specs.Told.{Handed, stateAs, handed}
-use Rattle.entries.specs.Entries.{stateIn}
+use Rattle.state_entries.specs.StateEntries.{stateIn}
 use Rattle.tickplume.proofs.Narrowed.{most, cut-same}
 
 -- the state with its entries cut

@@ -4,20 +4,20 @@
 ghost use mathlib.Core.Path.{_≡_};
 ghost use Rattle.paper.specs.Outcome.{leaves};
 ghost use Rattle.tickplume.specs.Face.{Told, buildCall, buildEntries, judgeCall, questionCall, startCall, rowCall, nextCall, countCall};
-use builder::Built;
+use build_at::Built;
 use dispatcher::Dispatcher;
 use dispatcher::RowTold;
 use dispatcher::Verdict;
-use entries::dispatcher_in;
 use entries::put_reading;
 use entries::put_reply;
-use entries::put_state;
 use entries::refusal;
 use load_count::Counted;
 use paper::Engine;
 use paper::Held;
 use paper::Judged;
 use question::Answer;
+use state_entries::dispatcher_in;
+use state_entries::put_state;
 
 // SA1's plan of the duties, into the lent table.
 #[no_mangle]

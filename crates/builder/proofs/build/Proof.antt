@@ -8,8 +8,9 @@ use lib.ListN.{length}
 use Rattle.paper.specs.Bytes.{within}
 use Rattle.paper.specs.Builder.{dutiesOf}
 use Rattle.duties.specs.Ready.{Paired}
-use Rattle.builder.specs.Built.{buildAt}
-use Rattle.builder.proofs.Refusals.{does, refuses, refusal-1, refusal-2, refusal-3, refusal-4-5, past-5, ready, inside}
+use Rattle.build_at.specs.Built.{buildAt}
+use Rattle.build_at.proofs.Sized.{does, refuses}
+use Rattle.builder.proofs.Refusals.{refusal-1, refusal-2, refusal-3, refusal-4-5, past-5, ready, inside}
 use borrow.Author.Needs.{needs}
 use Rattle.builder.proofs.build.Statement.{statement}
 use Rattle.builder.proofs.build.Tie as tie

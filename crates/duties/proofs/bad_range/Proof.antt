@@ -10,7 +10,7 @@ use Rattle.laws.proofs.Search.{Seeking, seek-none, seek-more, seek-hit, seek-mi
 use Rattle.paper.specs.Words.{dutyAt}
 use Rattle.paper.specs.Bytes.{dutyRanged}
 use Rattle.paper.specs.Builder.{dutiesOf, badRange}
-use Rattle.duties.proofs.Duties.{duties-length}
+use Rattle.paper.proofs.Planned.{length-duties}
 use Rattle.duties.proofs.bad_range.Statement.{statement}
 use Rattle.duties.proofs.bad_range.Tie as tie
 
@@ -33,7 +33,7 @@ returns : tie.Need-returns Inv-loop μ-loop
 unfolding badRange
 returns c =
     let args = c .before .before .before .before .before .before .before .args in
-    seek-hit (c .before .before .before .before .loop .inv) (omega (arith, duties-length (args .services .now) (args .periods .now)))
+    seek-hit (c .before .before .before .before .loop .inv) (omega (arith, length-duties (args .services .now) (args .periods .now)))
     (sym (ap not (c .before .in-range .ensures ∙ ap dutyRanged (c .before .before .duty-at .ensures))) ∙ c .if1 .taken)
 
 add-i : tie.Need-add-i Inv-loop μ-loop
@@ -45,14 +45,14 @@ loop-less c = search needs
 loop-again : tie.Need-loop-again Inv-loop μ-loop
 loop-again c =
     let args = c .before .before .before .before .before .before .before .args in
-    seek-more (c .before .before .before .before .loop .inv) (omega (arith, duties-length (args .services .now) (args .periods .now)))
+    seek-more (c .before .before .before .before .loop .inv) (omega (arith, length-duties (args .services .now) (args .periods .now)))
     (sym (ap not (c .before .in-range .ensures ∙ ap dutyRanged (c .before .before .duty-at .ensures))) ∙ c .if1 .left)
 
 returns-2 : tie.Need-returns-2 Inv-loop μ-loop
 unfolding badRange
 returns-2 c =
     let args = c .before .before .before .before .args in
-    seek-miss (c .before .loop .inv) (omega (arith, duties-length (args .services .now) (args .periods .now)))
+    seek-miss (c .before .loop .inv) (omega (arith, length-duties (args .services .now) (args .periods .now)))
 
 pub bad-range-spec : {M : Type 1} → statement M
 bad-range-spec =

@@ -9,7 +9,7 @@ use lib.ListN.{length}
 use Rattle.laws.proofs.Search.{Seeking, seek-none, seek-more, seek-hit, seek-miss}
 use Rattle.paper.specs.Words.{dutyAt, whole}
 use Rattle.paper.specs.Builder.{dutiesOf, badSlice}
-use Rattle.duties.proofs.Duties.{duties-length}
+use Rattle.paper.proofs.Planned.{length-duties}
 use Rattle.duties.proofs.bad_slice.Statement.{statement}
 use Rattle.duties.proofs.bad_slice.Tie as tie
 
@@ -32,7 +32,7 @@ returns : tie.Need-returns Inv-loop μ-loop
 unfolding badSlice
 returns c =
     let args = c .before .before .before .before .before .before .before .args in
-    seek-hit (c .before .before .before .before .loop .inv) (omega (arith, duties-length (args .services .now) (args .periods .now)))
+    seek-hit (c .before .before .before .before .loop .inv) (omega (arith, length-duties (args .services .now) (args .periods .now)))
     (sym (ap not (c .before .is-whole .ensures ∙ ap (whole _) (c .before .before .duty-at .ensures))) ∙ c .if1 .taken)
 
 add-i : tie.Need-add-i Inv-loop μ-loop
@@ -44,14 +44,14 @@ loop-less c = search needs
 loop-again : tie.Need-loop-again Inv-loop μ-loop
 loop-again c =
     let args = c .before .before .before .before .before .before .before .args in
-    seek-more (c .before .before .before .before .loop .inv) (omega (arith, duties-length (args .services .now) (args .periods .now)))
+    seek-more (c .before .before .before .before .loop .inv) (omega (arith, length-duties (args .services .now) (args .periods .now)))
     (sym (ap not (c .before .is-whole .ensures ∙ ap (whole _) (c .before .before .duty-at .ensures))) ∙ c .if1 .left)
 
 returns-2 : tie.Need-returns-2 Inv-loop μ-loop
 unfolding badSlice
 returns-2 c =
     let args = c .before .before .before .before .args in
-    seek-miss (c .before .loop .inv) (omega (arith, duties-length (args .services .now) (args .periods .now)))
+    seek-miss (c .before .loop .inv) (omega (arith, length-duties (args .services .now) (args .periods .now)))
 
 pub bad-slice-spec : {M : Type 1} → statement M
 bad-slice-spec =

@@ -9,7 +9,8 @@ use Rattle.laws.specs.Lists.{sumOf}
 use Rattle.paper.specs.Sa1.{slices}
 use Rattle.paper.specs.Bytes.{mostTicks}
 use Rattle.paper.specs.Builder.{dutiesOf}
-use Rattle.duties.proofs.Duties.{duties-length, total-left, total-none}
+use Rattle.paper.proofs.Planned.{length-duties}
+use Rattle.duties.proofs.Duties.{total-left, total-none}
 use Rattle.duties.proofs.total_slices.Statement.{statement}
 use Rattle.duties.proofs.total_slices.Tie as tie
 
@@ -44,7 +45,7 @@ loop-again c =
     let ps = args .periods .now in
     let ds = dutiesOf ss ps in
     let i = c .before .before .loop .i in
-    let h : i < length ds = omega (arith, duties-length ss ps) in
+    let h : i < length ds = omega (arith, length-duties ss ps) in
     (search needs, search needs, omega (arith, total-left t ds i h))
 
 returns : tie.Need-returns Inv-loop μ-loop
@@ -52,7 +53,7 @@ returns c =
     let args = c .before .before .before .before .args in
     let ss = args .services .now in
     let ps = args .periods .now in
-    omega (arith, total-none (args .t) (dutiesOf ss ps) (c .before .loop .i) (omega (arith, duties-length ss ps)))
+    omega (arith, total-none (args .t) (dutiesOf ss ps) (c .before .loop .i) (omega (arith, length-duties ss ps)))
 
 pub total-slices-spec : {M : Type 1} → statement M
 total-slices-spec =

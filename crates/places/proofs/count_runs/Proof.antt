@@ -8,7 +8,7 @@ use lib.ListN.{length, drop}
 use Rattle.paper.specs.Sa1.{slices}
 use Rattle.paper.specs.Builder.{dutiesOf}
 use Rattle.places.specs.Laying.{laidFrom, corner}
-use Rattle.duties.proofs.Duties.{duties-length}
+use Rattle.paper.proofs.Planned.{length-duties}
 use Rattle.places.proofs.Laying.{count-left, count-none}
 use Rattle.places.proofs.count_runs.Statement.{statement}
 use Rattle.places.proofs.count_runs.Tie as tie
@@ -47,7 +47,7 @@ loop-again c =
     let args = c .before .before .before .before .before .before .before .args in
     let ss = args .services .now in
     let ps = args .periods .now in
-    let h : c .before .before .before .before .loop .i < length (dutiesOf ss ps) = omega (arith, duties-length ss ps) in (
+    let h : c .before .before .before .before .loop .i < length (dutiesOf ss ps) = omega (arith, length-duties ss ps) in (
       search needs,
       search needs,
       search needs,
@@ -61,7 +61,7 @@ returns c =
     let loop = c .before .loop in
     let ss = args .services .now in
     let ps = args .periods .now in
-    omega (arith, count-none (args .t) (dutiesOf ss ps) (loop .i) (loop .place) (omega (arith, duties-length ss ps)))
+    omega (arith, count-none (args .t) (dutiesOf ss ps) (loop .i) (loop .place) (omega (arith, length-duties ss ps)))
 
 pub count-runs-spec : {M : Type 1} → statement M
 count-runs-spec =

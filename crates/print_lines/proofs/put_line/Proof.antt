@@ -7,7 +7,7 @@ use native.Mathlib.Omega.{arith}
 use lib.ListN.{length, length-set}
 use Rattle.laws.specs.Lists.{flat}
 use Rattle.laws.proofs.Writing.{more, stored, moved, done, length-lent}
-use Rattle.print_lines.specs.Spaced.{spaced}
+use Rattle.print_numbers.specs.Spaced.{spaced}
 use Rattle.print_lines.proofs.Line.{word-written, line-length, line-room}
 use borrow.Author.Needs.{needs}
 use Rattle.print_lines.proofs.put_line.Statement.{statement}

@@ -7,7 +7,7 @@ use native.Mathlib.Omega.{arith}
 use lib.ListN.{length}
 use Rattle.laws.proofs.Writing.{length-lent}
 use Rattle.laws.proofs.Listing.{Listing, listing-start, listing-at, listing-room, listing-more, listing-end}
-use Rattle.print_lines.specs.Spaced.{spaced}
+use Rattle.print_numbers.specs.Spaced.{spaced}
 use Rattle.print_lines.proofs.put_numbers.Statement.{statement}
 use Rattle.print_lines.proofs.put_numbers.Tie as tie
 

@@ -4,7 +4,7 @@ use borrow.Author.Needs.{needs}
 use Rattle.paper.specs.Answers.{advanced}
 use Rattle.paper.proofs.Listed.{next-listed}
 use Rattle.tickplume.specs.Face.{nextCall, entries}
-use Rattle.entries.specs.Entries.{stateEntries, stateIn}
+use Rattle.state_entries.specs.StateEntries.{stateEntries, stateIn}
 use Rattle.tickplume.proofs.Telling.{tell-short, tell-refused, tell-answer}
 use Rattle.tickplume.proofs.Handing.{handed-refused, handed-done}
 use Rattle.tickplume.proofs.Cut.{next-asked}

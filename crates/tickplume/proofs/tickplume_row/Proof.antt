@@ -9,7 +9,7 @@ use Rattle.paper.specs.Answers.{rowTold}
 use Rattle.paper.proofs.Listed.{row-listed}
 use Rattle.dispatcher.specs.Told.{rowAs}
 use Rattle.tickplume.specs.Face.{rowCall, entries, needing}
-use Rattle.entries.specs.Entries.{stateIn}
+use Rattle.state_entries.specs.StateEntries.{stateIn}
 use Rattle.tickplume.proofs.Telling.{tell-short, tell-refused, tell-answer, tell-next}
 use Rattle.entries.proofs.Stored.{stored-one}
 use Rattle.tickplume.proofs.Cut.{row-asked}

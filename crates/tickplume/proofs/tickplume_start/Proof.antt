@@ -4,7 +4,7 @@ use borrow.Author.Needs.{needs}
 use Rattle.paper.specs.Answers.{start}
 use Rattle.paper.proofs.Listed.{start-listed}
 use Rattle.tickplume.specs.Face.{startCall, entries}
-use Rattle.entries.specs.Entries.{stateEntries}
+use Rattle.state_entries.specs.StateEntries.{stateEntries}
 use Rattle.tickplume.proofs.Telling.{tell-short, tell-refused, tell-answer}
 use Rattle.tickplume.proofs.Handing.{handed-refused, handed-done}
 use Rattle.tickplume.proofs.tickplume_start.Statement.{statement}

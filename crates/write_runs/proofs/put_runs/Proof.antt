@@ -9,7 +9,7 @@ use Rattle.laws.proofs.Writing.{Wrote, start, more, next, moved, done, length-l
 use Rattle.paper.specs.Sa1.{slices}
 use Rattle.paper.specs.Builder.{dutiesOf}
 use Rattle.places.specs.Laying.{laidAt, laidFrom, corner}
-use Rattle.duties.proofs.Duties.{duties-length}
+use Rattle.paper.proofs.Planned.{length-duties}
 use Rattle.places.proofs.Laying.{count-left}
 use Rattle.write_runs.specs.RunBytes.{runsBytes}
 use Rattle.write_runs.proofs.RunBytes.{bytes-left, bytes-none, bytes-length}
@@ -50,7 +50,7 @@ put-duty-runs-requires c κs =
     let loop = c .before .before .before .loop in
     let ss = args .services .now in
     let ps = args .periods .now in
-    let h : loop .i < length (dutiesOf ss ps) = omega (arith, duties-length ss ps) in
+    let h : loop .i < length (dutiesOf ss ps) = omega (arith, length-duties ss ps) in
     rw length-lent (omega (arith, count-left (args .t) _ (dutiesOf ss ps) _ (loop .place) _ h (c .before .slice-at .ensures .0) refl))
 
 add-at : tie.Need-add-at Inv-loop μ-loop
@@ -59,7 +59,7 @@ add-at c =
     let loop = c .before .before .before .before .before .before .loop in
     let ss = args .services .now in
     let ps = args .periods .now in
-    let h : loop .i < length (dutiesOf ss ps) = omega (arith, duties-length ss ps) in
+    let h : loop .i < length (dutiesOf ss ps) = omega (arith, length-duties ss ps) in
     omega (arith, count-left (args .t) _ (dutiesOf ss ps) _ (loop .place) _ h (c .before .before .before .before .slice-at .ensures .0) refl, c .before .before .put-duty-runs .ensures .1)
 
 after-requires : tie.Need-after-requires Inv-loop μ-loop
@@ -81,7 +81,7 @@ loop-again c =
     let ds = dutiesOf ss ps in
     let i = loop .i in
     let n = c .before .before .before .before .before .slice-at .result in
-    let h : i < length ds = omega (arith, duties-length ss ps) in
+    let h : i < length ds = omega (arith, length-duties ss ps) in
     let left = bytes-left t n ds i (loop .place) (c .after .result) h (c .before .before .before .before .before .slice-at .ensures .0) (c .after .ensures .0) in
     let bytes = c .before .before .before .put-duty-runs .ensures .1 in (
       search needs,
@@ -102,7 +102,7 @@ returns c =
     let loop = c .before .loop in
     let ss = args .services .now in
     let ps = args .periods .now in
-    let none = bytes-none (args .t) (dutiesOf ss ps) (loop .i) (loop .place) (omega (arith, duties-length ss ps)) in
+    let none = bytes-none (args .t) (dutiesOf ss ps) (loop .i) (loop .place) (omega (arith, length-duties ss ps)) in
     done _ _ (loop .out) (loop .at) (next none (loop .inv .5))
 
 pub put-runs-spec : {M : Type 1} → statement M

@@ -12,7 +12,7 @@ use Rattle.laws.proofs.Writing.{Wrote, start, more, next, moved, done, length-l
 use Rattle.paper.specs.Words.{duty, dutyAt}
 use Rattle.paper.specs.Bytes.{dutyBytes}
 use Rattle.paper.specs.Builder.{dutiesOf}
-use Rattle.duties.proofs.Duties.{duties-length}
+use Rattle.paper.proofs.Planned.{length-duties}
 use Rattle.paper.proofs.Bytes.{length-duty}
 use Rattle.write_table.proofs.put_duties.Statement.{statement}
 use Rattle.write_table.proofs.put_duties.Tie as tie
@@ -60,7 +60,7 @@ loop-again c =
     let ps = args .periods .now in
     let ds = dutiesOf ss ps in
     let i = loop .i in
-    let h : i < length ds = omega (arith, duties-length ss ps) in
+    let h : i < length ds = omega (arith, length-duties ss ps) in
     let here = flat-left dutyBytes (duty 0 0) ds i h in (
       search needs,
       search needs,
@@ -79,7 +79,7 @@ returns c =
     let loop = c .before .loop in
     let ss = args .services .now in
     let ps = args .periods .now in
-    let none = flat-none dutyBytes (dutiesOf ss ps) (loop .i) (omega (arith, duties-length ss ps)) in
+    let none = flat-none dutyBytes (dutiesOf ss ps) (loop .i) (omega (arith, length-duties ss ps)) in
     done _ _ (loop .out) (loop .at) (next none (loop .inv .3))
 
 pub put-duties-spec : {M : Type 1} → statement M

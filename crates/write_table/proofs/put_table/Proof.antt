@@ -13,7 +13,7 @@ use Rattle.write_records.specs.Head.{headOf}
 use Rattle.places.specs.Laying.{laidFrom, corner}
 use Rattle.write_runs.specs.RunBytes.{runsBytes}
 use Rattle.write_runs.proofs.RunBytes.{runs-bytes}
-use Rattle.duties.proofs.Duties.{duties-length}
+use Rattle.paper.proofs.Planned.{length-duties}
 use Rattle.write_table.proofs.Table.{duties-bytes, table-is, head-of-length, parts-written}
 use borrow.Author.Needs.{needs}
 use Rattle.write_table.proofs.put_table.Statement.{statement}
@@ -98,8 +98,8 @@ returns c =
     let placed = c .before .before .before .before .before .before .put-runs in
     let end = c .before .before .put-end in
     parts-written (headOf t m n) D (runsBytes laid) (endBytes runs) out (head .last .0) (duties .last .0) (placed .last .0) (end .last .0) 7 (7 + 9 * n) (7 + 9 * n + 11 * runs)
-    (head-of-length t m n) (omega (arith, duties-bytes ds, duties-length ss ps)) (omega (arith, runs-bytes laid, pre .1)) (head .ensures) (duties .ensures) (placed .ensures) (end .ensures)
-    ∙ ap (λ (w : List ℕ). over w out) (sym (table-is t m n runs ds (sym (duties-length ss ps)) (pre .1)))
+    (head-of-length t m n) (omega (arith, duties-bytes ds, length-duties ss ps)) (omega (arith, runs-bytes laid, pre .1)) (head .ensures) (duties .ensures) (placed .ensures) (end .ensures)
+    ∙ ap (λ (w : List ℕ). over w out) (sym (table-is t m n runs ds (sym (length-duties ss ps)) (pre .1)))
 
 pub put-table-spec : {M : Type 1} → statement M
 put-table-spec =

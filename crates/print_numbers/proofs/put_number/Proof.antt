@@ -4,9 +4,9 @@ use mathlib.Core.Path.{_≡_, refl}
 use Prim.Native.Nat.{_≤_}
 use borrow.Author.Needs.{needs}
 use lib.ListN.{length, length-set}
-use Rattle.print_lines.proofs.Decimal.{Storing, storing-start, storing-more, storing-end}
-use Rattle.print_lines.proofs.put_number.Statement.{statement}
-use Rattle.print_lines.proofs.put_number.Tie as tie
+use Rattle.print_numbers.proofs.Decimal.{Storing, storing-start, storing-more, storing-end}
+use Rattle.print_numbers.proofs.put_number.Statement.{statement}
+use Rattle.print_numbers.proofs.put_number.Tie as tie
 
 abbrev Inv-loop : tie.InvT-loop
 Inv-loop out₀ n count k₀ left₀ out k left = (k ≤ count) × (length out ≡ length out₀) × Storing n out₀ out k left

@@ -1,9 +1,9 @@
 -- `digit_count`: each division by 10 takes one digit away.
 -- Assumes nothing.
 use borrow.Author.Needs.{needs}
-use Rattle.print_lines.proofs.Decimal.{Counting, counting-start, counting-more, counting-end}
-use Rattle.print_lines.proofs.digit_count.Statement.{statement}
-use Rattle.print_lines.proofs.digit_count.Tie as tie
+use Rattle.print_numbers.proofs.Decimal.{Counting, counting-start, counting-more, counting-end}
+use Rattle.print_numbers.proofs.digit_count.Statement.{statement}
+use Rattle.print_numbers.proofs.digit_count.Tie as tie
 
 abbrev Inv-loop : tie.InvT-loop
 Inv-loop n count₀ left₀ count left = Counting n count left

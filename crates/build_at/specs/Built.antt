@@ -6,8 +6,8 @@ use Rattle.paper.specs.Words.{Table}
 use Rattle.paper.specs.Outcome.{Outcome, refused, answer, andThen}
 use Rattle.paper.specs.Bytes.{small, encode}
 use Rattle.paper.specs.Builder.{planAt, fitted}
-use Rattle.builder.specs.declared.Built.{Built}
-use Rattle.builder.specs.declared.Built.the-variants.{Length, Refused}
+use Rattle.build_at.specs.declared.Built.{Built}
+use Rattle.build_at.specs.declared.Built.the-variants.{Length, Refused}
 
 -- the table's length, or a refusal's number and place
 abbrev pub builtAs : Built → Outcome ℕ

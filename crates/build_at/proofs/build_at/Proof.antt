@@ -8,12 +8,12 @@ use lib.ListN.{length}
 use Rattle.paper.specs.Sa1.{sa1}
 use Rattle.paper.specs.Bytes.{small, encode}
 use Rattle.paper.specs.Builder.{dutiesOf}
-use Rattle.duties.proofs.Duties.{duties-length}
+use Rattle.paper.proofs.Planned.{length-duties}
 use Rattle.write_table.proofs.Table.{sa1-length}
-use Rattle.builder.proofs.Refusals.{refuses, answers, refusal-6, refusal-7, refusal-8, built}
+use Rattle.build_at.proofs.Sized.{refuses, answers, refusal-6, refusal-7, refusal-8, built}
 use borrow.Author.Needs.{needs}
-use Rattle.builder.proofs.build_at.Statement.{statement}
-use Rattle.builder.proofs.build_at.Tie as tie
+use Rattle.build_at.proofs.build_at.Statement.{statement}
+use Rattle.build_at.proofs.build_at.Tie as tie
 
 bad-slice-requires : tie.Need-bad-slice-requires
 bad-slice-requires c κs = search needs
@@ -27,7 +27,7 @@ returns c =
     let ps = args .periods .now in
     let ds = dutiesOf ss ps in
     let room = length (args .out .now) in
-    refuses 6 _ _ (refusal-6 t m ds room _ (c .before .bad-slice .ensures) (omega (arith, duties-length ss ps)))
+    refuses 6 _ _ (refusal-6 t m ds room _ (c .before .bad-slice .ensures) (omega (arith, length-duties ss ps)))
 
 total-slices-requires : tie.Need-total-slices-requires
 total-slices-requires c κs = search needs
@@ -44,7 +44,7 @@ returns-2 c =
     let ps = args .periods .now in
     let ds = dutiesOf ss ps in
     let room = length (args .out .now) in
-    refuses 7 0 _ (refusal-7 t m ds room (omega (arith, duties-length ss ps, c .before .before .before .bad-slice .ensures)) (omega (arith, c .before .total-slices .ensures)))
+    refuses 7 0 _ (refusal-7 t m ds room (omega (arith, length-duties ss ps, c .before .before .before .bad-slice .ensures)) (omega (arith, c .before .total-slices .ensures)))
 
 count-runs-requires : tie.Need-count-runs-requires
 count-runs-requires c κs = search needs
@@ -71,8 +71,8 @@ returns-3 c =
     let ds = dutiesOf ss ps in
     let room = length (args .out .now) in
     let n = 10 + 9 * length ss + 11 * c .before .count-runs .result in
-    let size : length (encode small (sa1 t m ds)) ≡ n = sa1-length t m ds ∙ omega (arith, duties-length ss ps, c .before .count-runs .ensures .0) in
-    refuses 8 n _ (refusal-8 t m ds room n (omega (arith, duties-length ss ps, c .before .before .before .before .before .bad-slice .ensures)) (omega (arith, c .before .before .before .total-slices .ensures)) size (search needs))
+    let size : length (encode small (sa1 t m ds)) ≡ n = sa1-length t m ds ∙ omega (arith, length-duties ss ps, c .before .count-runs .ensures .0) in
+    refuses 8 n _ (refusal-8 t m ds room n (omega (arith, length-duties ss ps, c .before .before .before .before .before .bad-slice .ensures)) (omega (arith, c .before .before .before .total-slices .ensures)) size (search needs))
 
 put-table-requires : tie.Need-put-table-requires
 put-table-requires c κs = (c .before .before .before .before .before .before .before .before .before .before .pre .0, c .before .before .count-runs .ensures .0, c .before .before .count-runs .ensures .1, search needs)
@@ -90,8 +90,8 @@ returns-4 c =
     let ds = dutiesOf ss ps in
     let room = length (args .out .now) in
     let n = 10 + 9 * length ss + 11 * c .before .before .before .before .before .count-runs .result in
-    let size : length (encode small (sa1 t m ds)) ≡ n = sa1-length t m ds ∙ omega (arith, duties-length ss ps, c .before .before .before .before .before .count-runs .ensures .0) in
-    answers n (encode small (sa1 t m ds)) _ _ (built t m ds room n (omega (arith, duties-length ss ps, c .before .before .before .before .before .before .before .before .before .bad-slice .ensures)) (omega (arith, c .before .before .before .before .before .before .before .total-slices .ensures)) size (search needs)) size (c .before .before .put-table .ensures)
+    let size : length (encode small (sa1 t m ds)) ≡ n = sa1-length t m ds ∙ omega (arith, length-duties ss ps, c .before .before .before .before .before .count-runs .ensures .0) in
+    answers n (encode small (sa1 t m ds)) _ _ (built t m ds room n (omega (arith, length-duties ss ps, c .before .before .before .before .before .before .before .before .before .bad-slice .ensures)) (omega (arith, c .before .before .before .before .before .before .before .total-slices .ensures)) size (search needs)) size (c .before .before .put-table .ensures)
 
 pub build-at-spec : {M : Type 1} → statement M
 build-at-spec =
