@@ -12,7 +12,7 @@ pub type Duty = (u64, u64);
 pub struct Block {
     pub ticks: u64,
     pub duties: Vec<Duty>,
-    pub rows: Vec<Vec<Option<usize>>>,
+    pub rows: Vec<Vec<Option<u8>>>,
 }
 
 fn common_divisor(numbers: impl Iterator<Item = u64> + Clone) -> u64 {
@@ -55,7 +55,7 @@ pub fn fill(engines: u64, services: &[u32], periods: &[u32]) -> Result<Block, Re
     let mut place = 0u64;
     for (i, &(c, d)) in duties.iter().enumerate() {
         for _ in 0..c / (d / ticks) {
-            rows[(place / ticks) as usize][(place % ticks) as usize] = Some(i);
+            rows[(place / ticks) as usize][(place % ticks) as usize] = Some(i as u8);
             place += 1;
         }
     }
@@ -170,23 +170,23 @@ pub fn judge(b: &[u8]) -> Result<Block, Refused> {
             if rows[r][unit].is_some() {
                 return Err((14, k as u64));
             }
-            rows[r][unit] = Some(i);
+            rows[r][unit] = Some(i as u8);
         }
     }
-    if let Some(k) = runs.iter().position(|&(r, i, u, _)| u > 0 && rows[r][u - 1] == Some(i)) {
+    if let Some(k) = runs.iter().position(|&(r, i, u, _)| u > 0 && rows[r][u - 1] == Some(i as u8)) {
         return Err((15, k as u64));
     }
     let mut taken = vec![vec![None; ticks as usize]; count];
     for (k, &(r, i, u, n)) in runs.iter().enumerate() {
         for unit in u..u + n {
-            if taken[i][unit].is_some_and(|other| other != r) {
+            if taken[i][unit].is_some_and(|other| other != r as u8) {
                 return Err((16, k as u64));
             }
-            taken[i][unit] = Some(r);
+            taken[i][unit] = Some(r as u8);
         }
     }
     for (i, &(c, d)) in duties.iter().enumerate() {
-        let units = rows.iter().flatten().filter(|&&held| held == Some(i)).count() as u64;
+        let units = rows.iter().flatten().filter(|&&held| held == Some(i as u8)).count() as u64;
         if units != c / (d / ticks) {
             return Err((17, i as u64));
         }
