@@ -17,10 +17,10 @@ use Rattle.paper.specs.Bytes.{mostTicks, within}
 use Rattle.paper.specs.Builder.{dutiesOf, badRange, rangeFault, planAt, planDuties, plan, build}
 use Rattle.laws.proofs.Decides.{none-found}
 use Rattle.paper.proofs.Passed.{Ranges, within-told, duty-decides}
-use Rattle.paper.proofs.Accepted.{block-divides}
-use Rattle.paper.proofs.Sa1Table.{ticks-within}
+use Rattle.theorems.proofs.Accepted.{block-divides}
+use Rattle.theorems.proofs.Sa1Table.{ticks-within}
 use Rattle.duties.specs.Ready.{Paired, Ready}
-use Rattle.paper.proofs.Planned.{block-least, length-duties}
+use Rattle.theorems.proofs.Planned.{block-least, length-duties}
 use Rattle.duties.proofs.Duties.{duty-is, block-length-is}
 use Rattle.build_at.specs.declared.Built.{Built}
 use Rattle.build_at.specs.Built.{builtAs, written, buildAt}

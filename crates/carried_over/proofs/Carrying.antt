@@ -18,7 +18,7 @@ use Rattle.paper.specs.Bytes.{small}
 use Rattle.paper.specs.Statements.{Meets}
 use Rattle.paper.proofs.Links.{closed}
 use Rattle.paper.proofs.Loads.{carries, carried, later}
-use Rattle.paper.proofs.Starts.{laid, later-runs}
+use Rattle.theorems.proofs.Starts.{laid, later-runs}
 use Rattle.formed.specs.Formed.{Formed, tableOf}
 use Rattle.formed.proofs.Table.{table-engines, table-runs, table-ranged}
 use Rattle.tally.specs.Tally.{startsOf, endsOf}

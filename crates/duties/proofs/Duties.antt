@@ -15,7 +15,7 @@ use Rattle.paper.specs.declared.Duty.{Duty}
 use Rattle.paper.specs.Words.{duty, dutyAt, slice, blockLengthOf}
 use Rattle.paper.specs.Sa1.{slices}
 use Rattle.paper.specs.Builder.{dutiesOf}
-use Rattle.paper.proofs.Planned.{periods-back}
+use Rattle.theorems.proofs.Planned.{periods-back}
 
 -- duty i has the entries at i
 pub duty-is : (ss ps : List ℕ) (i : ℕ) → i < length ss → dutyAt (dutiesOf ss ps) i ≡ duty (getD ss i 0) (getD ps i 0)

@@ -10,7 +10,7 @@ use Rattle.paper.specs.Outcome.{answer, andThen}
 use Rattle.paper.specs.Bytes.{small, dutiesIn, goodRuns, tableIn, parse}
 use Rattle.paper.specs.Rules.{readingOf}
 use Rattle.paper.proofs.Outcomes.{answer-one, then-answer}
-use Rattle.paper.proofs.Read.{Formed as InForm, parsed}
+use Rattle.theorems.proofs.Read.{Formed as InForm, parsed}
 use Rattle.formed.specs.Formed.{Formed}
 use Rattle.formed.proofs.Table.{readingIn, reading-in}
 

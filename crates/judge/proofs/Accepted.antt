@@ -12,7 +12,7 @@ use Rattle.paper.specs.Outcome.{refused, answer, andThen, faultNumber, faultPla
 use Rattle.paper.specs.Bytes.{small, parse}
 use Rattle.paper.specs.Rules.{judgeTable, accepted, readingOf, judged}
 use Rattle.paper.proofs.Outcomes.{answer-one, then-refused, then-answer}
-use Rattle.paper.proofs.Accepted.{accepted-read}
+use Rattle.theorems.proofs.Accepted.{accepted-read}
 use Rattle.formed.specs.Formed.{Formed, tableOf}
 use Rattle.form.proofs.Formed.{formed}
 use Rattle.judge.specs.AcceptedAs.{AcceptedAs}

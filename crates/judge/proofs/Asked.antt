@@ -13,7 +13,7 @@ use Rattle.paper.specs.Bytes.{small}
 use Rattle.paper.specs.Statements.{Ranged}
 use Rattle.paper.specs.Outcome.{Outcome, refused, andThen, faultNumber, faultPlace, judgedAs}
 use Rattle.paper.specs.Rules.{accepted, judged}
-use Rattle.paper.proofs.Accepted.{accepted-iff, ranged-long}
+use Rattle.theorems.proofs.Accepted.{accepted-iff, ranged-long}
 use Rattle.formed.specs.Formed.{tableOf}
 use Rattle.formed.proofs.Table.{table-ranged}
 use Rattle.judge.specs.AcceptedAs.{AcceptedAs}

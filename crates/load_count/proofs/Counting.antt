@@ -12,7 +12,7 @@ use Rattle.paper.specs.Schedule.{loads}
 use Rattle.paper.specs.Bytes.{small}
 use Rattle.paper.specs.Answers.{mostBlocks}
 use Rattle.paper.proofs.Loads.{carried}
-use Rattle.paper.proofs.Starts.{loads-met}
+use Rattle.theorems.proofs.Starts.{loads-met}
 use Rattle.formed.specs.Formed.{tableOf}
 use Rattle.formed.proofs.Table.{table-runs}
 use Rattle.judge.specs.declared.Ruling.{Ruling}

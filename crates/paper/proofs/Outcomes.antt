@@ -4,9 +4,10 @@
 use Prim.Native.Nat.{ℕ}
 use mathlib.Core.Path.{_≡_, refl, sym}
 use mathlib.Core.Bool.{Bool, true, false}
+use mathlib.Core.List.{List}
 use native.Mathlib.Omega.{arith}
 use Rattle.laws.specs.Choice.{pick}
-use Rattle.paper.specs.Outcome.{Outcome, refused, answer, andThen}
+use Rattle.paper.specs.Outcome.{Outcome, refused, answer, andThen, leaves}
 
 -- an answer is no refusal
 pub answered : {A P : Type 0} (a : A) (n p : ℕ) → answer a ≡ refused n p → P
@@ -34,3 +35,7 @@ then-answer (answer a) f b e = (a, refl, e)
 pub past : {A : Type 0} (b : Bool) (n p : ℕ) (rest : Outcome A) (a : A) → pick b (refused n p) rest ≡ answer a → (b ≡ false) × (rest ≡ answer a)
 past true n p rest a h = answered a n p (sym h)
 past false n p rest a h = (refl, h)
+
+-- "Refusals write nothing"
+pub refused-leaves : (n p : ℕ) (buffer : List ℕ) → leaves (refused n p) buffer ≡ buffer
+refused-leaves n p buffer = refl

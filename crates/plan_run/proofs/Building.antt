@@ -13,8 +13,8 @@ use Rattle.paper.specs.Builder.{plan, fitted, build}
 use Rattle.paper.specs.Rules.{accepted}
 use Rattle.paper.specs.Text.{printLine, refusedWord, printed}
 use Rattle.paper.proofs.Outcomes.{answer-one, then-refused, then-answer}
-use Rattle.paper.proofs.Bytes.{length-encode}
-use Rattle.paper.proofs.Planned.{planned-ranged, planned-accepted}
+use Rattle.theorems.proofs.Bytes.{length-encode}
+use Rattle.theorems.proofs.Planned.{planned-ranged, planned-accepted}
 use Rattle.build_at.specs.declared.Built.{Built}
 use Rattle.build_at.specs.declared.Built.the-variants.{Length, Refused}
 use Rattle.build_at.specs.Built.{builtAs}

@@ -13,7 +13,7 @@ use Rattle.paper.specs.Schedule.{loads}
 use Rattle.paper.specs.Text.{planLine, chainLine, loadsLine, planText}
 use Rattle.paper.proofs.Links.{closed, rows-end}
 use Rattle.paper.proofs.Loads.{later-is}
-use Rattle.paper.proofs.Starts.{laid, loads-runs}
+use Rattle.theorems.proofs.Starts.{laid, loads-runs}
 use Rattle.formed.specs.Formed.{tableOf}
 use Rattle.formed.proofs.Table.{table-engines, table-runs}
 use Rattle.tally.specs.Tally.{startsOf, endsOf}

@@ -19,7 +19,7 @@ use Rattle.paper.specs.declared.Held.the-variants.{Idle, By}
 use Rattle.paper.specs.Words.{row, engine, Table, runAt, heldIn, same}
 use Rattle.paper.specs.Rotation.{link, firstOf, rowAt}
 use Rattle.paper.proofs.Holding.{held-none, same-idle}
-use Rattle.paper.proofs.Chains.{in-chain, row-reduced}
+use Rattle.theorems.proofs.Chains.{in-chain, row-reduced}
 use Rattle.paper.proofs.Links.{link-is}
 use Rattle.formed.specs.Formed.{Formed, tableOf}
 use Rattle.formed.proofs.Table.{table-runs, table-run}

@@ -14,7 +14,7 @@ use Rattle.laws.proofs.Writing.{Wrote, written, grown, all-written, over-nothin
 use Rattle.paper.specs.Rotation.{firstOf, chainsBelow}
 use Rattle.paper.specs.Text.{printLine, chainWord, chainLine}
 use Rattle.paper.proofs.Rotation.{first-zero, first-cut}
-use Rattle.paper.proofs.Chains.{InChain, in-chain, chain-below, chains-more}
+use Rattle.theorems.proofs.Chains.{InChain, in-chain, chain-below, chains-more}
 use Rattle.rotation.specs.Links.{IsLast}
 use Rattle.print_numbers.specs.Puts.{Puts}
 

@@ -8,7 +8,7 @@ use borrow.Author.Tests.{lt-ltb, le-ltb}
 use Rattle.laws.specs.Lists.{over}
 use Rattle.paper.specs.Outcome.{Outcome, refused, answer, lengthOf, leaves}
 use Rattle.paper.specs.Builder.{build}
-use Rattle.paper.proofs.Listed.{build-listed}
+use Rattle.theorems.proofs.Listed.{build-listed}
 use Rattle.paper.proofs.Outcomes.{answered, answer-one, then-refused}
 use Rattle.build_at.specs.declared.Built.{Built}
 use Rattle.build_at.specs.declared.Built.the-variants.{Length, Refused}

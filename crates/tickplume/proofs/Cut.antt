@@ -20,7 +20,7 @@ use Rattle.paper.specs.Outcome.{Outcome, refused, answer, andThen}
 use Rattle.paper.specs.Rules.{accepted}
 use Rattle.paper.specs.Statements.{Ranged}
 use Rattle.paper.specs.Answers.{State, rowsAt, rowTold, advanced}
-use Rattle.paper.proofs.AcceptedBytes.{accepted-ranged}
+use Rattle.theorems.proofs.AcceptedBytes.{accepted-ranged}
 use Rattle.paper.proofs.Links.{closed, rows-end}
 use Rattle.paper.proofs.Rotation.{row-below}
 use Rattle.dispatcher.specs.declared.Dispatcher.{Dispatcher}

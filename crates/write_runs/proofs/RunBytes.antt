@@ -13,7 +13,7 @@ use Rattle.paper.specs.declared.Run.{Run}
 use Rattle.paper.specs.Words.{run, slice, dutyAt}
 use Rattle.paper.specs.Sa1.{layOne, slices}
 use Rattle.paper.specs.Bytes.{small, runBytes, runLength}
-use Rattle.paper.proofs.Bytes.{length-run}
+use Rattle.theorems.proofs.Bytes.{length-run}
 use Rattle.places.specs.declared.Place.{Place}
 use Rattle.places.specs.Laying.{placeAfter, laidAt, laidFrom, runsAt}
 use Rattle.places.proofs.Laying.{laid-length, lay-left, lay-none}

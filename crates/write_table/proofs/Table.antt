@@ -12,7 +12,7 @@ use Rattle.laws.proofs.Writing.{begun, more, moved, done}
 use Rattle.paper.specs.declared.Duty.{Duty}
 use Rattle.paper.specs.Sa1.{slices, sa1}
 use Rattle.paper.specs.Bytes.{small, headBytes, dutyBytes, dutyLength, endBytes, encode}
-use Rattle.paper.proofs.Bytes.{length-duty, length-encode}
+use Rattle.theorems.proofs.Bytes.{length-duty, length-encode}
 use Rattle.write_records.specs.Head.{headOf}
 use Rattle.places.specs.Laying.{laidFrom, corner}
 use Rattle.write_runs.specs.RunBytes.{runsBytes}

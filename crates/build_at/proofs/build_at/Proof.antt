@@ -8,7 +8,7 @@ use lib.ListN.{length}
 use Rattle.paper.specs.Sa1.{sa1}
 use Rattle.paper.specs.Bytes.{small, encode}
 use Rattle.paper.specs.Builder.{dutiesOf}
-use Rattle.paper.proofs.Planned.{length-duties}
+use Rattle.theorems.proofs.Planned.{length-duties}
 use Rattle.write_table.proofs.Table.{sa1-length}
 use Rattle.build_at.proofs.Sized.{refuses, answers, refusal-6, refusal-7, refusal-8, built}
 use borrow.Author.Needs.{needs}

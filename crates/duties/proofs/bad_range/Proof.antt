@@ -10,7 +10,7 @@ use Rattle.laws.proofs.Search.{Seeking, seek-none, seek-more, seek-hit, seek-mi
 use Rattle.paper.specs.Words.{dutyAt}
 use Rattle.paper.specs.Bytes.{dutyRanged}
 use Rattle.paper.specs.Builder.{dutiesOf, badRange}
-use Rattle.paper.proofs.Planned.{length-duties}
+use Rattle.theorems.proofs.Planned.{length-duties}
 use Rattle.duties.proofs.bad_range.Statement.{statement}
 use Rattle.duties.proofs.bad_range.Tie as tie
 

@@ -9,7 +9,7 @@ use lib.ListN.{length}
 use Rattle.laws.proofs.Search.{Seeking, seek-none, seek-more, seek-hit, seek-miss}
 use Rattle.paper.specs.Words.{dutyAt, whole}
 use Rattle.paper.specs.Builder.{dutiesOf, badSlice}
-use Rattle.paper.proofs.Planned.{length-duties}
+use Rattle.theorems.proofs.Planned.{length-duties}
 use Rattle.duties.proofs.bad_slice.Statement.{statement}
 use Rattle.duties.proofs.bad_slice.Tie as tie
 

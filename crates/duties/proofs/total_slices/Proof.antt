@@ -9,7 +9,7 @@ use Rattle.laws.specs.Lists.{sumOf}
 use Rattle.paper.specs.Sa1.{slices}
 use Rattle.paper.specs.Bytes.{mostTicks}
 use Rattle.paper.specs.Builder.{dutiesOf}
-use Rattle.paper.proofs.Planned.{length-duties}
+use Rattle.theorems.proofs.Planned.{length-duties}
 use Rattle.duties.proofs.Duties.{total-left, total-none}
 use Rattle.duties.proofs.total_slices.Statement.{statement}
 use Rattle.duties.proofs.total_slices.Tie as tie

@@ -8,7 +8,7 @@ use lib.ListN.{length, drop}
 use Rattle.paper.specs.Sa1.{slices}
 use Rattle.paper.specs.Builder.{dutiesOf}
 use Rattle.places.specs.Laying.{laidFrom, corner}
-use Rattle.paper.proofs.Planned.{length-duties}
+use Rattle.theorems.proofs.Planned.{length-duties}
 use Rattle.places.proofs.Laying.{count-left, count-none}
 use Rattle.places.proofs.count_runs.Statement.{statement}
 use Rattle.places.proofs.count_runs.Tie as tie

@@ -4,7 +4,7 @@ use mathlib.Core.Path.{sym, ap, _∙_}
 use borrow.Author.Needs.{needs}
 use mathlib.Core.List.{[], _∷_}
 use Rattle.paper.specs.Answers.{counted}
-use Rattle.paper.proofs.Listed.{counted-listed}
+use Rattle.theorems.proofs.Listed.{counted-listed}
 use Rattle.load_count.specs.Told.{countAs}
 use Rattle.tickplume.specs.Face.{countCall, entries}
 use Rattle.tickplume.proofs.Telling.{tell-short, tell-refused, tell-answer}

@@ -2,7 +2,7 @@
 -- Assumes nothing.
 use borrow.Author.Needs.{needs}
 use Rattle.paper.specs.Answers.{advanced}
-use Rattle.paper.proofs.Listed.{next-listed}
+use Rattle.theorems.proofs.Listed.{next-listed}
 use Rattle.tickplume.specs.Face.{nextCall, entries}
 use Rattle.state_entries.specs.StateEntries.{stateEntries, stateIn}
 use Rattle.tickplume.proofs.Telling.{tell-short, tell-refused, tell-answer}

@@ -4,7 +4,7 @@ use mathlib.Core.Path.{sym, ap, _∙_}
 use borrow.Author.Needs.{needs}
 use Rattle.paper.specs.Words.{engine}
 use Rattle.paper.specs.Answers.{question}
-use Rattle.paper.proofs.Listed.{question-listed}
+use Rattle.theorems.proofs.Listed.{question-listed}
 use Rattle.question.specs.Told.{answerAs}
 use Rattle.entries.specs.Entries.{replyEntries}
 use Rattle.tickplume.specs.Face.{questionCall, entries}

@@ -6,7 +6,7 @@ use mathlib.Core.List.{[], _∷_}
 use Rattle.paper.specs.declared.Row.{Row}
 use Rattle.paper.specs.Words.{engine}
 use Rattle.paper.specs.Answers.{rowTold}
-use Rattle.paper.proofs.Listed.{row-listed}
+use Rattle.theorems.proofs.Listed.{row-listed}
 use Rattle.dispatcher.specs.Told.{rowAs}
 use Rattle.tickplume.specs.Face.{rowCall, entries, needing}
 use Rattle.state_entries.specs.StateEntries.{stateIn}

@@ -2,7 +2,7 @@
 -- Assumes nothing.
 use borrow.Author.Needs.{needs}
 use Rattle.paper.specs.Answers.{start}
-use Rattle.paper.proofs.Listed.{start-listed}
+use Rattle.theorems.proofs.Listed.{start-listed}
 use Rattle.tickplume.specs.Face.{startCall, entries}
 use Rattle.state_entries.specs.StateEntries.{stateEntries}
 use Rattle.tickplume.proofs.Telling.{tell-short, tell-refused, tell-answer}

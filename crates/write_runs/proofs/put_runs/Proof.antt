@@ -9,7 +9,7 @@ use Rattle.laws.proofs.Writing.{Wrote, start, more, next, moved, done, length-l
 use Rattle.paper.specs.Sa1.{slices}
 use Rattle.paper.specs.Builder.{dutiesOf}
 use Rattle.places.specs.Laying.{laidAt, laidFrom, corner}
-use Rattle.paper.proofs.Planned.{length-duties}
+use Rattle.theorems.proofs.Planned.{length-duties}
 use Rattle.places.proofs.Laying.{count-left}
 use Rattle.write_runs.specs.RunBytes.{runsBytes}
 use Rattle.write_runs.proofs.RunBytes.{bytes-left, bytes-none, bytes-length}

@@ -7,7 +7,7 @@ use Rattle.laws.specs.Lists.{over}
 use Rattle.laws.proofs.Writing.{begun, more, moved, done}
 use Rattle.paper.specs.Words.{run}
 use Rattle.paper.specs.Bytes.{small, runBytes}
-use Rattle.paper.proofs.Bytes.{length-run}
+use Rattle.theorems.proofs.Bytes.{length-run}
 use Rattle.write_runs.proofs.RunBytes.{bytes-split}
 use borrow.Author.Needs.{needs}
 use Rattle.write_runs.proofs.put_split.Statement.{statement}

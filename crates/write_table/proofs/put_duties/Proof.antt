@@ -12,8 +12,8 @@ use Rattle.laws.proofs.Writing.{Wrote, start, more, next, moved, done, length-l
 use Rattle.paper.specs.Words.{duty, dutyAt}
 use Rattle.paper.specs.Bytes.{dutyBytes}
 use Rattle.paper.specs.Builder.{dutiesOf}
-use Rattle.paper.proofs.Planned.{length-duties}
-use Rattle.paper.proofs.Bytes.{length-duty}
+use Rattle.theorems.proofs.Planned.{length-duties}
+use Rattle.theorems.proofs.Bytes.{length-duty}
 use Rattle.write_table.proofs.put_duties.Statement.{statement}
 use Rattle.write_table.proofs.put_duties.Tie as tie
 

@@ -13,7 +13,7 @@ use Rattle.write_records.specs.Head.{headOf}
 use Rattle.places.specs.Laying.{laidFrom, corner}
 use Rattle.write_runs.specs.RunBytes.{runsBytes}
 use Rattle.write_runs.proofs.RunBytes.{runs-bytes}
-use Rattle.paper.proofs.Planned.{length-duties}
+use Rattle.theorems.proofs.Planned.{length-duties}
 use Rattle.write_table.proofs.Table.{duties-bytes, table-is, head-of-length, parts-written}
 use borrow.Author.Needs.{needs}
 use Rattle.write_table.proofs.put_table.Statement.{statement}

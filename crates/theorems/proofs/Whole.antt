@@ -8,10 +8,10 @@ use mathlib.Core.Logic.{_↔_}
 use mathlib.Core.List.{List}
 use native.Mathlib.Nat.{mul-div-cancel', mul-dvd-mul-left, dvd-of-mul-dvd-mul-left, pos-of-dvd-of-pos}
 use lib.ListN.{length}
 use Rattle.paper.specs.declared.Duty.{Duty}
 use Rattle.paper.specs.Words.{dutyAt, blockLengthOf, whole}
-use Rattle.paper.proofs.Rules.{whole-decides}
-use Rattle.paper.proofs.Accepted.{block-divides}
+use Rattle.theorems.proofs.Rules.{whole-decides}
+use Rattle.theorems.proofs.Accepted.{block-divides}
 
 -- for every T that divides the period
 pub whole-iff : (t : ℕ) (x : Duty) → 0 < t → t ∣ x .period → (whole t x ≡ true) ↔ (x .period / t ∣ x .service)

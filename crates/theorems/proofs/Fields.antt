@@ -15,11 +15,11 @@ use Rattle.laws.proofs.Cases.{and-both}
 use Rattle.laws.proofs.Lists.{tab-ext, tab-getD}
 use Rattle.laws.proofs.Digits.{length-digits}
 use Rattle.laws.proofs.Parts.{Holds, holds-left, holds-room, holds-first, holds-field}
 use Rattle.paper.specs.declared.Duty.{Duty}
 use Rattle.paper.specs.declared.Run.{Run}
 use Rattle.paper.specs.Words.{duty, run, Table, dutyAt, runAt}
 use Rattle.paper.specs.Bytes.{Width, headBytes, dutyBytes, runBytes, endBytes, encode, headLength, dutyLength, runLength, endLength, dutyPlace, runPlace, stands, ticksIn, enginesIn, dutiesIn, dutyIn, runIn, tableIn}
-use Rattle.paper.proofs.Bytes.{head-stands, duty-stands, run-stands}
+use Rattle.theorems.proofs.Bytes.{head-stands, duty-stands, run-stands}
 
 -- a record that stands somewhere is not cut short and is of its kind
 pub stands-there : {b : List ℕ} {at : ℕ} (kind size : ℕ) (body : List ℕ) → suc (length body) ≡ size → Holds b at (kind ∷ body) → stands b at kind size ≡ true

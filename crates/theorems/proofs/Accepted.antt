@@ -13,15 +13,15 @@ use borrow.Author.Tests.{eqb-true, eq-eqb, not-false}
 use Rattle.laws.proofs.Search.{none-clear, clear-none}
 use Rattle.laws.proofs.Decides.{eqb-decides, none-found}
 use Rattle.laws.proofs.Divisor.{gcdOf-divides}
 use Rattle.paper.specs.declared.Duty.{Duty}
 use Rattle.paper.specs.Words.{duty, slice, blockLengthOf, dutyAt, runAt, Table}
 use Rattle.paper.specs.Outcome.{answer}
 use Rattle.paper.specs.Bytes.{Width, small, parse}
 use Rattle.paper.specs.Builder.{badSlice}
 use Rattle.paper.specs.Rules.{unordered, overlaps, joins, twice, lowest, unitsOf, badSum, badOrder, judgeRuns, judgeTable, accepted}
 use Rattle.paper.specs.Statements.{Ranged, Meets}
-use Rattle.paper.proofs.Rules.{InOrder, ordered-clear, clear-ordered, lowest-none, none-lowest, overlaps-apart, apart-overlaps, joins-any, not-joins, twice-apart, apart-twice, whole-decides, Wholes}
+use Rattle.theorems.proofs.Rules.{InOrder, ordered-clear, clear-ordered, lowest-none, none-lowest, overlaps-apart, apart-overlaps, joins-any, not-joins, twice-apart, apart-twice, whole-decides, Wholes}
 use Rattle.paper.proofs.Outcomes.{answer-one, then-answer, past}
 
 -- ---- the judge's way down the rules
 

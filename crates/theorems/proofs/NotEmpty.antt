@@ -13,21 +13,21 @@ use Rattle.laws.specs.Digits.{digits, numAt}
 use Rattle.laws.specs.Divisor.{gcdOf, gcd, euclid}
 use Rattle.laws.proofs.Lists.{length-tab}
 use Rattle.laws.proofs.Digits.{AreBytes}
 use Rattle.paper.specs.declared.Duty.{Duty}
 use Rattle.paper.specs.declared.Held.the-variants.{By}
 use Rattle.paper.specs.Words.{duty, run, row, engine, slice, whole, covers, heldIn, same, blockLengthOf, Table}
 use Rattle.paper.specs.Sa1.{sa1, lay, layOne, rowAfter, unitAfter}
 use Rattle.paper.specs.Rotation.{link, firstOf, nextOf, rowAt}
 use Rattle.paper.specs.Schedule.{walk, served}
 use Rattle.paper.specs.Outcome.{refused, answer}
 use Rattle.paper.specs.Bytes.{small, parse, afterHead, afterRuns, headGood, dutyGood, runGood, endGood, badDuty, goodRuns, tableIn, stands, dutyIn, runIn, encode, headBytes, dutyBytes, runBytes, endBytes}
 use Rattle.paper.specs.Builder.{dutiesOf, badRange, badSlice, planAt, planDuties, plan, fitted, build}
 use Rattle.paper.specs.Rules.{before, meet, unordered, overlaps, joins, twice, lowest, unitsOf, badSum, badOrder, judgeRuns, judgeTable, accepted}
 use Rattle.paper.specs.Statements.{Meets}
 use Rattle.paper.specs.Answers.{rowsAt, advanced, question}
-use Rattle.paper.proofs.Bytes.{encode-bytes}
-use Rattle.paper.proofs.AcceptedBytes.{accepted-meets}
-use Rattle.paper.proofs.Demands.{plan-sa1, jobs-served, question-walks, strange-refused}
+use Rattle.theorems.proofs.Bytes.{encode-bytes}
+use Rattle.theorems.proofs.AcceptedBytes.{accepted-meets}
+use Rattle.theorems.proofs.Demands.{plan-sa1, jobs-served, question-walks, strange-refused}
 
 -- ---- a table that the builder does not write
 

@@ -15,19 +15,19 @@ use Rattle.laws.specs.Choice.{one-if}
 use Rattle.laws.specs.Sum.{sumTo}
 use Rattle.laws.proofs.Cases.{by-cases}
 use Rattle.laws.proofs.Sum.{sum-ext, sum-const, sum-blocks}
 use Rattle.paper.specs.declared.Duty.{Duty}
 use Rattle.paper.specs.declared.Held.the-variants.{By}
 use Rattle.paper.specs.Words.{row, engine, jobStart, slice, Table, dutyAt, runAt, heldIn, same}
 use Rattle.paper.specs.Rotation.{link, rowAt}
 use Rattle.paper.specs.Schedule.{walk, given, served}
 use Rattle.paper.specs.Bytes.{Width}
 use Rattle.paper.specs.Rules.{unitsOf}
 use Rattle.paper.specs.Statements.{Ranged, Meets}
 use Rattle.paper.proofs.Rotation.{row-sum, row-one}
-use Rattle.paper.proofs.Accepted.{ticks-divides}
+use Rattle.theorems.proofs.Accepted.{ticks-divides}
 use Rattle.paper.proofs.Holding.{RowsApart}
 use Rattle.paper.proofs.Links.{Closed, closed, rows-end}
-use Rattle.paper.proofs.Units.{RowsBelow, Inside, DutiesApart, onUnit, rows-unit, units-block, unit-once, one-row}
+use Rattle.theorems.proofs.Units.{RowsBelow, Inside, DutiesApart, onUnit, rows-unit, units-block, unit-once, one-row}
 
 -- the runs lie in the rows and the units of a block and are apart: what service and exclusion need of a table
 pub record Serving (t : Table) : Type 0 where

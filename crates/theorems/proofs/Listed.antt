@@ -14,23 +14,23 @@ use Rattle.laws.specs.Choice.{pick}
 use Rattle.laws.specs.Lists.{same-list}
 use Rattle.laws.proofs.Search.{first-le}
 use Rattle.laws.proofs.Cases.{and-right}
 use Rattle.paper.specs.declared.Engine.{Engine}
 use Rattle.paper.specs.Words.{Table, blockLengthOf}
 use Rattle.paper.specs.Outcome.{Outcome, refused, answer, andThen}
 use Rattle.paper.specs.Bytes.{small, encode, runPlace, endLength, dutyPlace, dutiesIn, headGood, endGood, runGood, badDuty, goodRuns, tableIn, afterRuns, afterHead, parse}
 use Rattle.paper.specs.Builder.{dutiesOf, badSlice, plan, build}
 use Rattle.paper.specs.Answers.{State, rowsAt, stateAt, mostBlocks, question, start, rowTold, advanced, counted}
 use Rattle.paper.specs.Schedule.{loads}
 use Rattle.paper.specs.Sa1.{sa1}
 use Rattle.paper.specs.Rules.{fault, judged, readingOf, lowest, overlaps, joins, twice, badSum, badOrder, judgeRuns, judgeTable, accepted}
 use Rattle.paper.specs.Text.{Lines, none, line, linesOf, engineLineGood, enginesRead, dutyLineGood, dutyRead, dutiesFrom, inputOf, mostInput, input}
 use Rattle.paper.specs.Statements.{Ranged}
 use Rattle.paper.proofs.Outcomes.{answered, refused-one}
-use Rattle.paper.proofs.Bytes.{length-encode}
+use Rattle.theorems.proofs.Bytes.{length-encode}
 use Rattle.paper.proofs.Passed.{From, head-told}
-use Rattle.paper.proofs.Read.{parse-ranged}
-use Rattle.paper.proofs.PlanWhen.{Counts, When, engines-out, lengths-differ, duties-out, period-out, service-out, slice-broken, too-much, planned, plan-when}
-use Rattle.paper.proofs.Planned.{length-duties, planned-ranged, WhenBuilt, not-planned, too-short, written, built-when}
+use Rattle.theorems.proofs.Read.{parse-ranged}
+use Rattle.theorems.proofs.PlanWhen.{Counts, When, engines-out, lengths-differ, duties-out, period-out, service-out, slice-broken, too-much, planned, plan-when}
+use Rattle.theorems.proofs.Planned.{length-duties, planned-ranged, WhenBuilt, not-planned, too-short, written, built-when}
 
 -- ---- refusals with listed numbers
 

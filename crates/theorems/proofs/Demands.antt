@@ -9,27 +9,28 @@ use lib.ListN.{length}
 use Rattle.laws.specs.Choice.{one-if}
 use Rattle.laws.specs.Sum.{sumTo}
 use Rattle.laws.proofs.Digits.{AreBytes}
 use Rattle.paper.specs.declared.Engine.{Engine}
 use Rattle.paper.specs.declared.Held.the-variants.{By}
 use Rattle.paper.specs.Words.{engine, row, jobStart, blockLengthOf, Table, dutyAt, heldIn}
 use Rattle.paper.specs.Sa1.{sa1}
 use Rattle.paper.specs.Rotation.{link, nextOf, rowAt}
 use Rattle.paper.specs.Schedule.{walk, given, served, load, loadsIn, loads}
 use Rattle.paper.specs.Outcome.{Outcome, refused, answer, andThen, leaves}
 use Rattle.paper.specs.Bytes.{small, encode}
 use Rattle.paper.specs.Builder.{dutiesOf, plan, build}
 use Rattle.paper.specs.Rules.{accepted, judged}
 use Rattle.paper.specs.Statements.{Ranged, Meets}
 use Rattle.paper.specs.Answers.{State, rowsAt, stateAt, mostBlocks, question, start, rowTold, advanced, counted}
 use Rattle.paper.specs.Text.{servicesOf, periodsOf, input}
+use Rattle.paper.proofs.Outcomes.{refused-leaves}
 use Rattle.paper.proofs.Rotation.{row-start, row-after}
-use Rattle.paper.proofs.Service.{meets-serving, job-served, never-twice, one-engine}
+use Rattle.theorems.proofs.Service.{meets-serving, job-served, never-twice, one-engine}
 use Rattle.paper.proofs.Passed.{From}
-use Rattle.paper.proofs.PlanWhen.{When, plan-when}
-use Rattle.paper.proofs.Planned.{planned-sa1, planned-engines, planned-services, planned-periods, WhenBuilt, built-when, built, built-accepted}
-use Rattle.paper.proofs.AcceptedBytes.{accepted-ranged, accepted-meets, accepted-when}
-use Rattle.paper.proofs.Listed.{Listed, build-listed, judged-listed, question-listed, start-listed, row-listed, next-listed, counted-listed, input-listed}
+use Rattle.theorems.proofs.PlanWhen.{When, plan-when}
+use Rattle.theorems.proofs.Planned.{planned-sa1, planned-engines, planned-services, planned-periods, WhenBuilt, built-when, built, built-accepted}
+use Rattle.theorems.proofs.AcceptedBytes.{accepted-ranged, accepted-meets, accepted-when}
+use Rattle.theorems.proofs.Listed.{Listed, build-listed, judged-listed, question-listed, start-listed, row-listed, next-listed, counted-listed, input-listed}
 use Rattle.paper.proofs.Asked.{advancedBy, question-is, start-is, row-is, row-strange, next-strange, next-all, counted-is}
 
 -- ---- Demand 1. "Every call takes whatever numbers and bytes arrive, ends, and either answers or refuses with the number document 01 lists. A
 -- ---- refused call changes no byte of the caller's."
@@ -54,7 +55,7 @@ refusals-listed = (build-listed, judged-listed, question-listed, start-listed, r
 
 -- "Refusals write nothing"
 pub refusal-writes-nothing : (n p : ℕ) (buffer : List ℕ) → leaves (refused n p) buffer ≡ buffer
-refusal-writes-nothing n p buffer = refl
+refusal-writes-nothing = refused-leaves
 
 -- ---- Demand 2. "The plan is SA1's; every duty gets exactly its service in each period, no engine two duties in a tick, no duty two engines. A
 -- ---- table is accepted, whoever wrote it, exactly when it meets document 01's rules."

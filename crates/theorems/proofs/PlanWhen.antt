@@ -12,15 +12,15 @@ use Rattle.laws.specs.Choice.{pick}
 use Rattle.laws.specs.Lists.{sumOf}
 use Rattle.laws.proofs.Cases.{by-cases}
 use Rattle.laws.proofs.Decides.{Decides, Not, Lowest, fails, failed, lowest-found, found-lowest, none-found}
 use Rattle.paper.specs.declared.Duty.{Duty}
 use Rattle.paper.specs.Words.{dutyAt, blockLengthOf, whole, Table}
 use Rattle.paper.specs.Sa1.{slices, sa1}
 use Rattle.paper.specs.Outcome.{Outcome, refused, answer}
 use Rattle.paper.specs.Bytes.{small, mostTicks, within, dutyRanged}
 use Rattle.paper.specs.Builder.{dutiesOf, badRange, badSlice, planAt, planDuties, plan}
-use Rattle.paper.proofs.Rules.{Whole, Wholes, whole-decides}
-use Rattle.paper.proofs.Accepted.{slices-met}
+use Rattle.theorems.proofs.Rules.{Whole, Wholes, whole-decides}
+use Rattle.theorems.proofs.Accepted.{slices-met}
 use Rattle.paper.proofs.Passed.{From, InRange, Ranges, within-told, within-decides, duty-decides}
 
 -- ---- the conditions
 

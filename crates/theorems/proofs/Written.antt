@@ -13,13 +13,13 @@ use Rattle.laws.specs.Digits.{digits, numAt}
 use Rattle.laws.proofs.Cases.{lt-or-le}
 use Rattle.laws.proofs.Search.{first-is, first-none}
 use Rattle.laws.proofs.Parts.{holds-first}
 use Rattle.paper.specs.Words.{stop, Table, dutyAt, runAt}
 use Rattle.paper.specs.Outcome.{answer}
 use Rattle.paper.specs.Bytes.{Width, small, mostTicks, endBytes, encode, endLength, dutyPlace, runPlace, runLength, stands, headGood, dutyGood, runGood, endGood, badDuty, goodRuns, afterRuns, afterHead, parse}
 use Rattle.paper.specs.Statements.{Ranged}
-use Rattle.paper.proofs.Bytes.{length-encode, head-stands, duty-stands, run-stands, end-stands}
-use Rattle.paper.proofs.Fields.{InFields, head-kind, ticks-read, engines-read, duties-read, duty-kind, duty-read, run-kind, run-read, end-kind, end-read, table-read}
+use Rattle.theorems.proofs.Bytes.{length-encode, head-stands, duty-stands, run-stands, end-stands}
+use Rattle.theorems.proofs.Fields.{InFields, head-kind, ticks-read, engines-read, duties-read, duty-kind, duty-read, run-kind, run-read, end-kind, end-read, table-read}
 use Rattle.paper.proofs.Passed.{duty-decides}
 
 -- a width whose ranges fit its fields, and whose runs are not taken for the end
 pub record Sound (w : Width) : Type 0 where

@@ -16,17 +16,17 @@ use Rattle.laws.specs.Choice.{pick, one-if}
 use Rattle.laws.specs.Sum.{sumTo}
 use Rattle.laws.proofs.Cases.{by-cases, lt-or-le, refuted, and-left, and-right}
 use Rattle.laws.proofs.Sum.{sum-ext, sum-first, sum-plus, sum-const, sum-swap, sum-zero, sum-only, count-cell}
 use Rattle.paper.specs.declared.Run.{Run}
 use Rattle.paper.specs.declared.Held.the-variants.{By}
 use Rattle.paper.specs.Words.{row, stop, Table, runAt, heldIn, same, busy}
 use Rattle.paper.specs.Schedule.{loads}
 use Rattle.paper.specs.Bytes.{Width}
 use Rattle.paper.specs.Statements.{Ranged, Meets, Has}
-use Rattle.paper.proofs.Rules.{NotJoined}
+use Rattle.theorems.proofs.Rules.{NotJoined}
 use Rattle.paper.proofs.Holding.{Covering, covering-other, RowsApart, has-covers, covers-has, covers-row, held-cases, held-by, covering-one}
-use Rattle.paper.proofs.Units.{RowsBelow, Inside}
+use Rattle.theorems.proofs.Units.{RowsBelow, Inside}
 use Rattle.paper.proofs.Links.{Closed, closed}
 use Rattle.paper.proofs.Loads.{fresh, opening, inside, later, carried, loads-none, loads-first, loads-closed, later-carried}
 
 -- what the count needs of the runs: each has units, inside the block and on a row of the table; 14; 15
 pub record Laid (m t : ℕ) (xs : List Run) : Type 0 where

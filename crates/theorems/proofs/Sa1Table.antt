@@ -14,18 +14,18 @@ use Rattle.laws.specs.Sum.{sumTo}
 use Rattle.laws.specs.Lists.{sumOf}
 use Rattle.laws.proofs.Cases.{by-order}
 use Rattle.laws.proofs.Each.{Each, each-at, at-each, each-of-map, pairs-at}
 use Rattle.paper.specs.declared.Duty.{Duty}
 use Rattle.paper.specs.declared.Run.{Run}
 use Rattle.paper.specs.Words.{duty, run, stop, slice, blockLengthOf, dutyAt, runAt}
 use Rattle.paper.specs.Sa1.{lay, slices, sa1}
 use Rattle.paper.specs.Bytes.{Width, mostTicks}
 use Rattle.paper.specs.Rules.{before, unitsOf}
 use Rattle.paper.specs.Statements.{DutyRanged, RunRanged, Ranged, Apart, Meets}
 use Rattle.paper.proofs.Passed.{Ranges}
-use Rattle.paper.proofs.Rules.{InOrder, NotJoined, Wholes, before-when}
+use Rattle.theorems.proofs.Rules.{InOrder, NotJoined, Wholes, before-when}
 use Rattle.paper.proofs.Holding.{RowsApart}
-use Rattle.paper.proofs.Sa1.{Slice, Of, Follows, laid-between, follows, rows-below, few-runs}
-use Rattle.paper.proofs.Sa1Shares.{units-laid, isSplit, few-splits}
+use Rattle.theorems.proofs.Sa1.{Slice, Of, Follows, laid-between, follows, rows-below, few-runs}
+use Rattle.theorems.proofs.Sa1Shares.{units-laid, isSplit, few-splits}
 
 -- a whole slice is from 1 to T
 pub slice-bounds : (t : ℕ) (x : Duty) → 1 ≤ t → DutyRanged x → x .period ∣ t * x .service → Slice t (slice t x)

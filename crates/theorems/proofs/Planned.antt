@@ -12,21 +12,21 @@ use lib.ListN.{length, getD}
 use borrow.Author.Tests.{lt-ltb, le-ltb, ltb-true, ltb-false}
 use Rattle.laws.proofs.Cases.{by-cases}
 use Rattle.laws.proofs.Lists.{length-tab, map-tab, tab-getD}
 use Rattle.paper.specs.declared.Duty.{Duty}
 use Rattle.paper.specs.Words.{duty, blockLengthOf, Table}
 use Rattle.paper.specs.Sa1.{sa1}
 use Rattle.paper.specs.Outcome.{Outcome, refused, answer, andThen}
 use Rattle.paper.specs.Bytes.{small, encode}
 use Rattle.paper.specs.Builder.{dutiesOf, plan, fitted, build}
 use Rattle.paper.specs.Rules.{accepted}
 use Rattle.paper.specs.Statements.{Ranged, Meets}
 use Rattle.paper.specs.Text.{servicesOf, periodsOf}
 use Rattle.paper.proofs.Outcomes.{answered, answer-one}
 use Rattle.paper.proofs.Passed.{Ranges}
-use Rattle.paper.proofs.Accepted.{block-divides}
-use Rattle.paper.proofs.Sa1Table.{Fits, sa1-ranged, sa1-meets, ticks-within}
-use Rattle.paper.proofs.AcceptedBytes.{meets-accepted}
-use Rattle.paper.proofs.PlanWhen.{Fitting, When, engines-out, lengths-differ, duties-out, period-out, service-out, slice-broken, too-much, planned, plan-when}
+use Rattle.theorems.proofs.Accepted.{block-divides}
+use Rattle.theorems.proofs.Sa1Table.{Fits, sa1-ranged, sa1-meets, ticks-within}
+use Rattle.theorems.proofs.AcceptedBytes.{meets-accepted}
+use Rattle.theorems.proofs.PlanWhen.{Fitting, When, engines-out, lengths-differ, duties-out, period-out, service-out, slice-broken, too-much, planned, plan-when}
 
 -- ---- T
 

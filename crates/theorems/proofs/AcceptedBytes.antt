@@ -7,14 +7,14 @@ use mathlib.Core.Path.{_≡_}
 use mathlib.Core.List.{List}
 use mathlib.Core.Logic.{_↔_}
 use Rattle.laws.proofs.Digits.{AreBytes}
 use Rattle.paper.specs.Words.{Table}
 use Rattle.paper.specs.Outcome.{answer}
 use Rattle.paper.specs.Bytes.{small, encode}
 use Rattle.paper.specs.Rules.{accepted}
 use Rattle.paper.specs.Statements.{Ranged, Meets}
-use Rattle.paper.proofs.Accepted.{ranged-long, accepted-iff, accepted-read, read-accepted}
-use Rattle.paper.proofs.Written.{small-sound, parse-encode}
-use Rattle.paper.proofs.Read.{parse-ranged, parse-told}
+use Rattle.theorems.proofs.Accepted.{ranged-long, accepted-iff, accepted-read, read-accepted}
+use Rattle.theorems.proofs.Written.{small-sound, parse-encode}
+use Rattle.theorems.proofs.Read.{parse-ranged, parse-told}
 
 -- the table in accepted bytes is in form
 pub accepted-ranged : (b : List ℕ) (t : Table) → accepted b ≡ answer t → Ranged small t

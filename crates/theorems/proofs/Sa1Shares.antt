@@ -16,11 +16,11 @@ use Rattle.laws.specs.Lists.{sumOf}
 use Rattle.laws.specs.Sum.{sumTo}
 use Rattle.laws.proofs.Sum.{sum-none, sum-first, sum-ext}
 use Rattle.laws.proofs.Each.{Each, each-map}
 use Rattle.paper.specs.declared.Run.{Run}
 use Rattle.paper.specs.Words.{run}
 use Rattle.paper.specs.Sa1.{lay}
 use Rattle.paper.specs.Rules.{unitsOf}
-use Rattle.paper.proofs.Sa1.{Slice, Of, lay-cases, laid-between, few-runs}
+use Rattle.theorems.proofs.Sa1.{Slice, Of, lay-cases, laid-between, few-runs}
 
 -- what the runs of duty i add up to, where run x counts f x
 unfoldable pub shareOf : (Run → ℕ) → List Run → ℕ → ℕ
