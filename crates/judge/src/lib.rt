@@ -1,15 +1,18 @@
 // The judge of tables: the form of the bytes, then the rules. One pass over the runs serves the judge and those who ask on.
 ghost use mathlib.Core.Path.{_≡_};
-ghost use Rattle.paper.specs.Outcome.{refused, judgedAs, faultNumber, faultPlace};
-ghost use Rattle.paper.specs.Rules.{judged};
-ghost use Rattle.formed.specs.Formed.{Formed};
+ghost use Rattle.paper.specs.Outcome.{refused, answer, andThen, judgedAs, faultNumber, faultPlace};
+ghost use Rattle.paper.specs.Rules.{judged, judgeTable, readingOf};
+ghost use Rattle.formed.specs.Formed.{Formed, tableOf};
+ghost use Rattle.tally.specs.Tally.{unitsIn};
 ghost use Rattle.judge.specs.Ruled.{Ruled};
+use duty_rules::bad_slice;
+use duty_rules::block_length_of;
 use form::Form;
 use form::form_of;
 use paper::Fault;
 use paper::Judged;
 use paper::Reading;
-use rules::judge_rules;
+use rules::judge_runs;
 use tally::tally_of;
 
 // What judging leaves to those who ask on: the judge's answer, and what holds the first and the last unit of each row of a
@@ -18,6 +21,22 @@ pub struct Ruling {
     pub judged: Judged,
     pub starts: [u32; 33],
     pub ends: [u32; 33],
+}
+
+// Rules 11 to 17 of bytes in good form, whose duties have these units: the lowest fault, or the reading.
+fn judge_rules(b: &[u8], rd: Reading, units: &[u32; 64]) -> Judged
+    requires { ⌜ Formed (now b) rd ⌝ }
+    requires { ⌜ now units ≡ unitsIn (tableOf (now b) rd) ⌝ }
+    ensures { λ r. ⌜ judgedAs r ≡ andThen (judgeTable (tableOf (now (b .entry)) rd)) (λ t. answer (readingOf t)) ⌝ }
+{
+    if rd.block_length != block_length_of(b, rd) {
+        return Judged::Bad(Fault::BlockLength);
+    }
+    let d = bad_slice(b, rd);
+    if d < rd.duties as usize {
+        return Judged::Bad(Fault::Slice(d));
+    }
+    judge_runs(b, rd, units)
 }
 
 // The rules' answer to bytes in good form, with the edges of the rows that the tally has found.

@@ -1,1 +1,2 @@
-mod Found
+-- What a search that looks for a rule's place tells.
+pub mod Found

@@ -1,12 +1,10 @@
-// Rules 11 to 17 of a table's bytes in good form, in their order, each with the place that it reports.
+// Rules 13 to 17, of the runs of a table's bytes in good form, in their order, each with the place that it reports.
 ghost use mathlib.Core.Path.{_≡_};
 ghost use Rattle.paper.specs.Outcome.{answer, andThen, judgedAs};
-ghost use Rattle.paper.specs.Rules.{judgeRuns, judgeTable, readingOf};
+ghost use Rattle.paper.specs.Rules.{judgeRuns, readingOf};
 ghost use Rattle.formed.specs.Formed.{Formed, tableOf};
 ghost use Rattle.tally.specs.Tally.{unitsIn};
-use duty_rules::bad_slice;
 use duty_rules::bad_sum;
-use duty_rules::block_length_of;
 use paper::Fault;
 use paper::Judged;
 use paper::Reading;
@@ -14,8 +12,8 @@ use run_clashes::Clash;
 use run_clashes::lowest_clash;
 use run_order::bad_order;
 
-// 13 to 17, of the runs.
-fn judge_runs(b: &[u8], rd: Reading, units: &[u32; 64]) -> Judged
+// 13 to 17, of the runs of bytes in good form, whose duties have these units: the lowest fault, or the reading.
+pub fn judge_runs(b: &[u8], rd: Reading, units: &[u32; 64]) -> Judged
     requires { ⌜ Formed (now b) rd ⌝ }
     requires { ⌜ now units ≡ unitsIn (tableOf (now b) rd) ⌝ }
     ensures { λ r. ⌜ judgedAs r ≡ andThen (judgeRuns (tableOf (now (b .entry)) rd)) (λ t. answer (readingOf t)) ⌝ }
@@ -42,20 +40,4 @@ fn judge_runs(b: &[u8], rd: Reading, units: &[u32; 64]) -> Judged
         return Judged::Bad(Fault::Service(wrong));
     }
     Judged::Accepted(rd)
-}
-
-// Rules 11 to 17 of bytes in good form, whose duties have these units: the lowest fault, or the reading.
-pub fn judge_rules(b: &[u8], rd: Reading, units: &[u32; 64]) -> Judged
-    requires { ⌜ Formed (now b) rd ⌝ }
-    requires { ⌜ now units ≡ unitsIn (tableOf (now b) rd) ⌝ }
-    ensures { λ r. ⌜ judgedAs r ≡ andThen (judgeTable (tableOf (now (b .entry)) rd)) (λ t. answer (readingOf t)) ⌝ }
-{
-    if rd.block_length != block_length_of(b, rd) {
-        return Judged::Bad(Fault::BlockLength);
-    }
-    let d = bad_slice(b, rd);
-    if d < rd.duties as usize {
-        return Judged::Bad(Fault::Slice(d));
-    }
-    judge_runs(b, rd, units)
 }

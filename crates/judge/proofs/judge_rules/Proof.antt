@@ -7,14 +7,14 @@ use lib.Dec.{eqb}
 use lib.ListN.{length}
 use Rattle.paper.specs.Words.{Table, blockLengthOf}
 use Rattle.paper.specs.Outcome.{refused}
 use Rattle.rules.proofs.Found.{found-none, found-one}
 use Rattle.formed.specs.Formed.{tableOf}
 use borrow.Author.Tests.{eq-eqb, ne-eqb}
 use Rattle.paper.specs.Rules.{judgeTable}
 use Rattle.formed.proofs.Table.{table-ticks, table-duties}
 use borrow.Author.Needs.{needs}
-use Rattle.rules.proofs.judge_rules.Statement.{statement}
-use Rattle.rules.proofs.judge_rules.Tie as tie
+use Rattle.judge.proofs.judge_rules.Statement.{statement}
+use Rattle.judge.proofs.judge_rules.Tie as tie
 
 -- the table in the bytes
 abbrev table : tie.Start → Table
