@@ -3,7 +3,7 @@ ghost use mathlib.Core.List.{[], _∷_};
 ghost use Prim.Native.Nat.{_≤_, _<_};
 ghost use lib.ListN.{length};
 ghost use Rattle.paper.specs.Bytes.{mostTicks};
-ghost use Rattle.paper.specs.Text.{printLine, planWord, dutyWord, runLine, chainWord, loadsWord, refusedWord};
+ghost use Rattle.paper.specs.Text.{printLine, planWord, dutyWord, runLine, chainWord, loadsWord};
 ghost use Rattle.print_numbers.specs.Puts.{Puts};
 use paper::Duty;
 use paper::Reading;
@@ -61,13 +61,4 @@ pub fn put_loads(out: &mut [u8], first: u32, later: u32) -> usize
 {
     let numbers = [first as u64, later as u64];
     put_line(out, b"loads", &numbers)
-}
-
-// A refusal: number, place.
-pub fn put_refused(out: &mut [u8], number: u32, place: usize) -> usize
-    requires { ⌜ 50 ≤ length (now out) ⌝ }
-    ensures { λ r. ⌜ Puts (printLine refusedWord (number ∷ place ∷ [])) (now (out .entry)) (now (out .exit)) r ⌝ }
-{
-    let numbers = [number as u64, place as u64];
-    put_line(out, b"refused", &numbers)
 }

@@ -15,8 +15,9 @@ use paper::Judged;
 use plan_input::Input;
 use plan_input::Verdict;
 use plan_input::read_input;
-use plan_lines::put_refused;
 use plan_text::put_text;
+use print_lines::put_refused;
+use print_lines::put_text_fault;
 
 // The plan in table bytes, or their refusal.
 fn put_plan(out: &mut [u8], table: &[u8]) -> usize
@@ -56,6 +57,6 @@ pub fn run_plan(input: &[u8], out: &mut [u8; 8192]) -> usize
     let verdict = taken.verdict;
     match verdict {
         Verdict::Read => put_planned(out, taken.input),
-        Verdict::Fault(line) => put_refused(out, 9, line),
+        Verdict::Fault(line) => put_text_fault(out, line),
     }
 }

@@ -1,9 +1,10 @@
 // A printed line: a word, then each number after a space, in decimal, and a line feed. It is written at the front of a
-// lent rest, and the writer tells how many bytes it took.
+// lent rest, and the writer tells how many bytes it took. The line of a refusal, which any part of the program may print.
 ghost use Prim.Native.Nat.{_≤_};
+ghost use mathlib.Core.List.{[], _∷_};
 ghost use lib.ListN.{length};
 ghost use Rattle.laws.specs.Lists.{flat};
-ghost use Rattle.paper.specs.Text.{printLine};
+ghost use Rattle.paper.specs.Text.{printLine, refusedWord};
 ghost use Rattle.print_numbers.specs.Puts.{Puts};
 ghost use Rattle.print_numbers.specs.Spaced.{spaced};
 use print_numbers::put_number;
@@ -33,4 +34,21 @@ pub fn put_line(out: &mut [u8], word: &[u8], numbers: &[u64]) -> usize
     let end = at + put_numbers(&mut out[at..], numbers);
     out[end] = 10;
     end + 1
+}
+
+// A refusal: number, place.
+pub fn put_refused(out: &mut [u8], number: u32, place: usize) -> usize
+    requires { ⌜ 50 ≤ length (now out) ⌝ }
+    ensures { λ r. ⌜ Puts (printLine refusedWord (number ∷ place ∷ [])) (now (out .entry)) (now (out .exit)) r ⌝ }
+{
+    let numbers = [number as u64, place as u64];
+    put_line(out, b"refused", &numbers)
+}
+
+// The line of a text fault: number 9 and the line.
+pub fn put_text_fault(out: &mut [u8], line: usize) -> usize
+    requires { ⌜ 50 ≤ length (now out) ⌝ }
+    ensures { λ r. ⌜ Puts (printLine refusedWord (9 ∷ line ∷ [])) (now (out .entry)) (now (out .exit)) r ⌝ }
+{
+    put_refused(out, 9, line)
 }

@@ -18,8 +18,8 @@ put-planned-requires c κs = (search needs, taken-sized _ _ (c .before .before .
 enum-known-verdict : tie.Need-enum-known-verdict
 enum-known-verdict c = search needs
 
-put-refused-requires : tie.Need-put-refused-requires
-put-refused-requires c κs = search needs
+put-text-fault-requires : tie.Need-put-text-fault-requires
+put-text-fault-requires c κs = search needs
 
 returns : tie.Need-returns
 returns c =
@@ -29,7 +29,7 @@ returns c =
 returns-2 : tie.Need-returns-2
 returns-2 c =
     let read = c .before .before .before .before .before .read-input in
-    puts-as (c .before .before .before .before .before .before .before .args .out .now) (fault-printed _ (read .result) _ (read .ensures) (c .before .before .before .verdict .given .1)) (c .put-refused .ensures)
+    puts-as (c .before .before .before .before .before .before .before .args .out .now) (fault-printed _ (read .result) _ (read .ensures) (c .before .before .before .verdict .given .1)) (c .put-text-fault .ensures)
 
 pub run-plan-spec : {M : Type 1} → statement M
 run-plan-spec =
@@ -39,6 +39,6 @@ run-plan-spec =
     enum-told
     put-planned-requires
     enum-known-verdict
-    put-refused-requires
+    put-text-fault-requires
     returns
     returns-2)

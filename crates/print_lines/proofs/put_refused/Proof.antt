@@ -6,12 +6,12 @@ use native.Mathlib.Omega.{arith}
 use lib.ListN.{length}
 use borrow.Author.Needs.{needs}
 use Rattle.paper.specs.Text.{printLine, refusedWord}
 use Rattle.print_lines.proofs.Line.{line-most}
-use Rattle.plan_lines.proofs.put_refused.Statement.{statement}
-use Rattle.plan_lines.proofs.put_refused.Tie as tie
+use Rattle.print_lines.proofs.put_refused.Statement.{statement}
+use Rattle.print_lines.proofs.put_refused.Tie as tie
 
-refused-most : (n p : ℕ) → n < 2 ^ 64 → p < 2 ^ 64 → length (printLine refusedWord (n ∷ p ∷ [])) ≤ 50
-refused-most n p h l = omega (arith, line-most 19 refusedWord (n ∷ p ∷ []) (omega arith, (omega arith, tt)))
+refused-fits : (n p room : ℕ) → n < 2 ^ 64 → p < 2 ^ 64 → 50 ≤ room → length (printLine refusedWord (n ∷ p ∷ [])) ≤ room
+refused-fits n p room h l r = omega (arith, line-most 19 refusedWord (n ∷ p ∷ []) (omega arith, (omega arith, tt)))
 
 slice-aggregate-put-line : tie.Need-slice-aggregate-put-line
 slice-aggregate-put-line c = search needs
@@ -20,15 +20,13 @@ slice-aggregate-put-line-2 : tie.Need-slice-aggregate-put-line-2
 slice-aggregate-put-line-2 c = search needs
 
 put-line-requires : tie.Need-put-line-requires
-put-line-requires c κs =
-    let start = c .before .before .before .before in
-    omega (arith, refused-most (start .args .number) (start .args .place) (search needs) (search needs))
+put-line-requires c κs = refused-fits _ _ _ (search needs) (search needs) (search needs)
 
 same-length : tie.Need-same-length
 same-length c = search needs
 
 returns : tie.Need-returns
-returns c = search needs
+returns c = c .before .before .put-line .ensures
 
 pub put-refused-spec : {M : Type 1} → statement M
 put-refused-spec =
