@@ -10,9 +10,9 @@ ghost use Rattle.print_numbers.specs.Puts.{Puts};
 ghost use Rattle.rotation_lines.specs.Parts.{chainLinesBy, rotationLinesBy};
 use carried_over::carried;
 use paper::Row;
-use plan_lines::put_chain;
-use plan_lines::put_loads;
 use rotation::chain_last;
+use table_lines::put_chain;
+use table_lines::put_loads;
 
 // The chains, by first row: past the last row of one the next begins.
 fn put_chains(out: &mut [u8], starts: &[u32; 33], ends: &[u32; 33], engines: u32) -> usize

@@ -8,8 +8,8 @@ use borrow.Author.Needs.{needs}
 use Rattle.paper.specs.Bytes.{mostTicks}
 use Rattle.paper.specs.Text.{printLine, planWord}
 use Rattle.print_lines.proofs.Line.{line-most}
-use Rattle.plan_lines.proofs.put_head.Statement.{statement}
-use Rattle.plan_lines.proofs.put_head.Tie as tie
+use Rattle.table_lines.proofs.put_head.Statement.{statement}
+use Rattle.table_lines.proofs.put_head.Tie as tie
 
 head-most : (t m n : ℕ) → t ≤ mostTicks → m ≤ 32 → n ≤ 64 → length (printLine planWord (t ∷ m ∷ n ∷ [])) ≤ 29
 head-most t m n p q r = omega (arith, line-most 6 planWord (t ∷ m ∷ n ∷ []) (omega arith, (omega arith, (omega arith, tt))))

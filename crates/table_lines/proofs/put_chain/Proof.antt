@@ -7,8 +7,8 @@ use lib.ListN.{length}
 use borrow.Author.Needs.{needs}
 use Rattle.paper.specs.Text.{printLine, chainWord}
 use Rattle.print_lines.proofs.Line.{line-most}
-use Rattle.plan_lines.proofs.put_chain.Statement.{statement}
-use Rattle.plan_lines.proofs.put_chain.Tie as tie
+use Rattle.table_lines.proofs.put_chain.Statement.{statement}
+use Rattle.table_lines.proofs.put_chain.Tie as tie
 
 chain-most : (from n : ℕ) → from < 100 → n < 100 → length (printLine chainWord (from ∷ n ∷ [])) ≤ 12
 chain-most from n h l = omega (arith, line-most 1 chainWord (from ∷ n ∷ []) (omega arith, (omega arith, tt)))

@@ -7,8 +7,8 @@ use lib.ListN.{length}
 use borrow.Author.Needs.{needs}
 use Rattle.paper.specs.Text.{printLine, loadsWord}
 use Rattle.print_lines.proofs.Line.{line-most}
-use Rattle.plan_lines.proofs.put_loads.Statement.{statement}
-use Rattle.plan_lines.proofs.put_loads.Tie as tie
+use Rattle.table_lines.proofs.put_loads.Statement.{statement}
+use Rattle.table_lines.proofs.put_loads.Tie as tie
 
 loads-most : (x y : ℕ) → x ≤ 128 → y ≤ 128 → length (printLine loadsWord (x ∷ y ∷ [])) ≤ 22
 loads-most x y h l = omega (arith, line-most 6 loadsWord (x ∷ y ∷ []) (omega arith, (omega arith, tt)))
