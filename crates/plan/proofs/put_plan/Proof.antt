@@ -5,9 +5,9 @@ use borrow.Author.Needs.{needs}
 use Rattle.paper.specs.Text.{printed}
 use Rattle.judge.proofs.Accepted.{accepted-as, accepted-table, refused-as}
 use Rattle.judge.proofs.Asked.{ready}
-use Rattle.plan_run.proofs.Building.{puts-as, refused-line}
-use Rattle.plan_run.proofs.put_plan.Statement.{statement}
-use Rattle.plan_run.proofs.put_plan.Tie as tie
+use Rattle.plan.proofs.Building.{puts-as, refused-line}
+use Rattle.plan.proofs.put_plan.Statement.{statement}
+use Rattle.plan.proofs.put_plan.Tie as tie
 
 rule-on-requires : tie.Need-rule-on-requires
 rule-on-requires c κs = search needs

@@ -19,7 +19,7 @@ use Rattle.plan_input.specs.declared.Verdict.{Verdict}
 use Rattle.plan_input.specs.declared.Verdict.the-variants.{Read, Fault}
 use Rattle.plan_input.specs.Taken.{asTaken, told, toldOf}
 use Rattle.plan_input.proofs.Told.{taken-told, input-few}
-use Rattle.plan_run.specs.Sized.{Sized}
+use Rattle.plan.specs.Sized.{Sized}
 
 -- the sizes of what is read
 pub taken-sized : (b : List ℕ) (r : Taken) → r ≡ asTaken (input b) → Sized (r .input)

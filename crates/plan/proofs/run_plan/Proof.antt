@@ -1,10 +1,10 @@
 -- `run_plan`: what was read decides what is printed.
 -- Assumes nothing.
-use Rattle.plan_run.proofs.Building.{puts-as}
-use Rattle.plan_run.proofs.Told.{taken-sized, fault-printed, read-printed}
+use Rattle.plan.proofs.Building.{puts-as}
+use Rattle.plan.proofs.Told.{taken-sized, fault-printed, read-printed}
 use borrow.Author.Needs.{needs}
-use Rattle.plan_run.proofs.run_plan.Statement.{statement}
-use Rattle.plan_run.proofs.run_plan.Tie as tie
+use Rattle.plan.proofs.run_plan.Statement.{statement}
+use Rattle.plan.proofs.run_plan.Tie as tie
 
 read-input-requires : tie.Need-read-input-requires
 read-input-requires c κs = search needs

@@ -9,9 +9,9 @@ use lib.Seq.{length-take-le}
 use borrow.Author.Needs.{needs}
 use Rattle.paper.specs.Text.{printed}
 use Rattle.plan_input.specs.declared.Input.{Input}
-use Rattle.plan_run.proofs.Building.{puts-as, build-size, build-printed, build-refused}
-use Rattle.plan_run.proofs.put_planned.Statement.{statement}
-use Rattle.plan_run.proofs.put_planned.Tie as tie
+use Rattle.plan.proofs.Building.{puts-as, build-size, build-printed, build-refused}
+use Rattle.plan.proofs.put_planned.Statement.{statement}
+use Rattle.plan.proofs.put_planned.Tie as tie
 
 -- the duties' numbers, of those that were read
 abbrev services : Input → List ℕ
