@@ -1,1 +1,2 @@
 pub mod RowsBy
+pub mod ByState

@@ -1,13 +1,13 @@
--- The dispatcher's answers by what code has at hand: the tests on the way, and, of bytes that were judged, the links by the edges of the rows.
+-- The dispatcher's answers by what code has at hand: of bytes that were judged, the links by the edges of the rows.
 -- Assumes nothing.
-use Prim.Native.Nat.{ℕ, _+_, _-_, _^_, _≤_, _<_}
+use Prim.Native.Nat.{ℕ, _+_, _-_, _^_}
 use mathlib.Core.Path.{_≡_, refl, sym, ap, _∙_}
-use mathlib.Core.Bool.{Bool, true, false}
+use mathlib.Core.Bool.{Bool}
 use mathlib.Core.List.{List}
 use lib.Dec.{eqb}
-use borrow.Author.Tests.{lt-ltb, le-ltb, eq-eqb, ne-eqb}
 use Rattle.laws.specs.Choice.{pick}
 use Rattle.laws.specs.Lists.{same-list}
+use Rattle.laws.proofs.Cases.{by-cases}
 use Rattle.paper.specs.declared.Engine.{Engine}
 use Rattle.paper.specs.declared.Reading.{Reading}
 use Rattle.paper.specs.Words.{Table}
@@ -25,28 +25,14 @@ use Rattle.judge.proofs.Asked.{asked-accepted}
 use Rattle.rotation.specs.Links.{linkOf}
 use Rattle.rotation.proofs.Linking.{link-read}
 use Rattle.block_rows.specs.RowsBy.{rowsBy}
-use Rattle.dispatcher.specs.Told.{stateBy, nextBy, rowBy}
+use Rattle.block_rows.specs.declared.Step.{Step}
+use Rattle.block_rows.specs.ByState.{stepAs, stepBy, rowBy}
+use Rattle.dispatcher.specs.Told.{stateBy, nextBy}
 
-module _ (c : ℕ → Bool) (m : ℕ) (s : State) where
-  -- the next state, by the tests on the way: 20, then 21
-  pub next-foreign : same-list (s .rows) (rowsBy c m (s .block)) ≡ false → nextBy c m s ≡ refused 20 0
-  next-foreign h = rw h
-
-  pub next-last : same-list (s .rows) (rowsBy c m (s .block)) ≡ true → s .block ≡ 2 ^ 64 - 1 → nextBy c m s ≡ refused 21 0
-  next-last h p = rw (h, eq-eqb (s .block) (2 ^ 64 - 1) p)
-
-  pub next-is : same-list (s .rows) (rowsBy c m (s .block)) ≡ true → (s .block ≡ 2 ^ 64 - 1 → ⊥) → nextBy c m s ≡ answer (stateBy c m (s .block + 1))
-  next-is h p = rw (h, ne-eqb (s .block) (2 ^ 64 - 1) p)
-
-  -- an engine's row, by the tests on the way: 18, then 20
-  pub row-none : (e : Engine) → m ≤ e .0 → rowBy c m s e ≡ refused 18 0
-  row-none e l = rw (le-ltb (e .0) m l)
-
-  pub row-foreign : (e : Engine) → e .0 < m → same-list (s .rows) (rowsBy c m (s .block)) ≡ false → rowBy c m s e ≡ refused 20 0
-  row-foreign e l h = rw (lt-ltb (e .0) m l, h)
-
-  pub row-is : (e : Engine) → e .0 < m → same-list (s .rows) (rowsBy c m (s .block)) ≡ true → rowBy c m s e ≡ answer (rowAt c (s .block) e)
-  row-is e l h = rw (lt-ltb (e .0) m l, h)
+-- the next state, by what the state was told of the next block
+pub next-by : (c : ℕ → Bool) (m : ℕ) (s : State) {x y : Step} → stepAs x ≡ stepBy c m (s .block) (s .rows) → x ≡ y
+    → andThen (stepAs y) (λ b. answer (stateBy c m b)) ≡ nextBy c m s
+next-by c m s h q = ap (λ o. andThen o (λ b. answer (stateBy c m b))) (sym (ap stepAs q) ∙ h)
 
 -- ---- of one table
 
@@ -60,9 +46,13 @@ pub state-table : (t : Table) (block : ℕ) → _≡_ {A = Outcome State} (answe
 state-table t block = rw (rows-table t block)
 
 pub next-table : (s : State) (t : Table) → nextBy (link t) (t .engines) s ≡ ofState t s (pick (eqb (s .block) (2 ^ 64 - 1)) (refused 21 0) (answer (stateAt t (s .block + 1))))
-next-table s t = rw (rows-table t (s .block), rows-table t (s .block + 1))
+next-table s t =
+    by-cases (same-list (s .rows) (rowsBy (link t) (t .engines) (s .block)))
+    (λ p. rw (← rows-table t (s .block), p)
+    (by-cases (eqb (s .block) (2 ^ 64 - 1)) (λ q. rw q) (λ q. rw (q, rows-table t (s .block + 1)))))
+    (λ p. rw (← rows-table t (s .block), p))
 
-pub row-table : (s : State) (e : Engine) (t : Table) → rowBy (link t) (t .engines) s e ≡ ofEngine t e (ofState t s (answer (rowAt (link t) (s .block) e)))
+pub row-table : (s : State) (e : Engine) (t : Table) → rowBy (link t) (t .engines) (s .block) (s .rows) e ≡ ofEngine t e (ofState t s (answer (rowAt (link t) (s .block) e)))
 row-table s e t = rw (rows-table t (s .block))
 
 -- ---- of bytes that were judged: what is worked out by the links and the number of engines is what is asked of the table in them

@@ -3,13 +3,14 @@
 -- Assumes nothing.
 use mathlib.Core.Path.{_≡_, refl, sym, ap, _∙_}
 use Rattle.paper.specs.Answers.{State}
+use Rattle.block_rows.specs.declared.RowTold.{RowTold}
+use Rattle.block_rows.specs.declared.RowTold.the-variants.{At, Refused as NoRow}
+use Rattle.block_rows.specs.ByState.{rowAs}
 use Rattle.dispatcher.specs.declared.Dispatcher.{Dispatcher}
 use Rattle.dispatcher.specs.declared.Dispatched.{Dispatched}
 use Rattle.dispatcher.specs.declared.Verdict.{Verdict}
 use Rattle.dispatcher.specs.declared.Verdict.the-variants.{Done, Refused as Not}
-use Rattle.dispatcher.specs.declared.RowTold.{RowTold}
-use Rattle.dispatcher.specs.declared.RowTold.the-variants.{At, Refused as NoRow}
-use Rattle.dispatcher.specs.Told.{Handed, stateAs, outcomeAs, dispatchedAs, rowAs}
+use Rattle.dispatcher.specs.Told.{Handed, stateAs, outcomeAs, dispatchedAs}
 
 -- the state ..
 pub state-one : (x y : Dispatcher) → stateAs x ≡ stateAs y → x ≡ y

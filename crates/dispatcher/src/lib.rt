@@ -2,23 +2,21 @@
 // walks over blocks: the rows of a block are worked out from its number.
 ghost use mathlib.Core.Path.{_≡_};
 ghost use Prim.Native.Nat.{_≤_};
-ghost use Rattle.laws.specs.Lists.{same-list};
 ghost use Rattle.paper.specs.Outcome.{answer, refused};
 ghost use Rattle.paper.specs.Answers.{start, advanced, rowTold};
 ghost use Rattle.rotation.specs.Links.{linkOf};
-ghost use Rattle.block_rows.specs.RowsBy.{rowsBy};
-ghost use Rattle.dispatcher.specs.Told.{stateAs, handed, dispatchedAs, rowAs, stateBy, nextBy, rowBy};
+ghost use Rattle.block_rows.specs.ByState.{rowAs};
+ghost use Rattle.dispatcher.specs.Told.{stateAs, handed, dispatchedAs, stateBy, nextBy};
+use block_rows::RowTold;
+use block_rows::Step;
+use block_rows::advance;
 use block_rows::rows_at;
-use block_rows::same_rows;
+use block_rows::tell;
 use judge::number_of;
 use judge::place_of;
 use judge::rule_on;
 use paper::Engine;
 use paper::Judged;
-use paper::Row;
-use rotation::row_in;
-
-const LAST_BLOCK: u64 = 18446744073709551615;
 
 // A dispatcher's state: a block, and the row of each engine in it, 0 past the last engine.
 pub struct Dispatcher {
@@ -36,21 +34,6 @@ pub enum Verdict {
 pub struct Dispatched {
     pub verdict: Verdict,
     pub state: Dispatcher,
-}
-
-// The row of an engine, or a refusal.
-pub enum RowTold {
-    At(Row),
-    Refused(u32, usize),
-}
-
-// Whether a state is the one for its block.
-fn is_own(engines: u32, starts: &[u32; 33], ends: &[u32; 33], s: Dispatcher) -> bool
-    requires { ⌜ engines ≤ 32 ⌝ }
-    ensures { λ r. ⌜ r ≡ same-list (s .rows) (rowsBy (linkOf (now (starts .entry)) (now (ends .entry))) engines (s .block)) ⌝ }
-{
-    let rows = s.rows;
-    same_rows(rows, rows_at(engines, starts, ends, s.block))
 }
 
 // The state of a block.
@@ -81,34 +64,11 @@ fn next_of(engines: u32, starts: &[u32; 33], ends: &[u32; 33], s: Dispatcher) ->
     requires { ⌜ engines ≤ 32 ⌝ }
     ensures { λ r. ⌜ dispatchedAs r ≡ handed (nextBy (linkOf (now (starts .entry)) (now (ends .entry))) engines (stateAs s)) ⌝ }
 {
-    if !is_own(engines, starts, ends, s) {
-        return refuse(20, 0);
+    let rows = s.rows;
+    match advance(engines, starts, ends, s.block, rows) {
+        Step::To(block) => done(engines, starts, ends, block),
+        Step::Refused(number) => refuse(number, 0),
     }
-    let block = s.block;
-    if block == LAST_BLOCK {
-        return refuse(21, 0);
-    }
-    done(engines, starts, ends, block + 1)
-}
-
-// The row of an engine by a state.
-fn tell(
-    engines: u32,
-    starts: &[u32; 33],
-    ends: &[u32; 33],
-    s: Dispatcher,
-    engine: Engine,
-) -> RowTold
-    requires { ⌜ engines ≤ 32 ⌝ }
-    ensures { λ r. ⌜ rowAs r ≡ rowBy (linkOf (now (starts .entry)) (now (ends .entry))) engines (stateAs s) engine ⌝ }
-{
-    if engines <= engine.0 {
-        return RowTold::Refused(18, 0);
-    }
-    if !is_own(engines, starts, ends, s) {
-        return RowTold::Refused(20, 0);
-    }
-    RowTold::At(row_in(starts, ends, engine, s.block))
 }
 
 impl Dispatcher {
@@ -144,12 +104,13 @@ impl Dispatcher {
     pub fn row(self, b: &[u8], engine: Engine) -> RowTold
         ensures { λ r. ⌜ rowAs r ≡ rowTold (now (b .entry)) (stateAs self) engine ⌝ }
     {
+        let rows = self.rows;
         let ruling = rule_on(b);
         let starts = ruling.starts;
         let ends = ruling.ends;
         let judged = ruling.judged;
         match judged {
-            Judged::Accepted(rd) => tell(rd.engines, &starts, &ends, self, engine),
+            Judged::Accepted(rd) => tell(rd.engines, &starts, &ends, self.block, rows, engine),
             Judged::Bad(fault) => RowTold::Refused(number_of(fault), place_of(fault)),
         }
     }

@@ -4,9 +4,9 @@
 ghost use mathlib.Core.Path.{_≡_};
 ghost use Rattle.paper.specs.Outcome.{leaves};
 ghost use Rattle.tickplume.specs.Face.{Told, buildCall, buildEntries, judgeCall, questionCall, startCall, rowCall, nextCall, countCall};
+use block_rows::RowTold;
 use build_at::Built;
 use dispatcher::Dispatcher;
-use dispatcher::RowTold;
 use dispatcher::Verdict;
 use entries::put_reading;
 use entries::put_reply;

@@ -1,46 +1,41 @@
--- `next_of`: 20, then 21, else the state of the block after.
+-- `next_of`: the state of the next block, or the refusal.
 -- Assumes nothing.
-use mathlib.Core.Path.{sym, ap, _∙_}
-use borrow.Author.Tests.{not-true, not-false}
+use mathlib.Core.Path.{ap, _∙_}
 use borrow.Author.Needs.{needs}
 use Rattle.dispatcher.specs.Told.{stateAs, handed}
-use Rattle.dispatcher.proofs.Rows.{next-foreign, next-last, next-is}
+use Rattle.dispatcher.proofs.Rows.{next-by}
 use Rattle.dispatcher.proofs.next_of.Statement.{statement}
 use Rattle.dispatcher.proofs.next_of.Tie as tie
 
-is-own-requires : tie.Need-is-own-requires
-is-own-requires c κs = search needs
+advance-requires : tie.Need-advance-requires
+advance-requires c κs = search needs
+
+enum-known-block : tie.Need-enum-known-block
+enum-known-block c = search needs
+
+done-requires : tie.Need-done-requires
+done-requires c κs = search needs
+
+enum-known-number : tie.Need-enum-known-number
+enum-known-number c = search needs
 
 refuse-requires : tie.Need-refuse-requires
 refuse-requires c κs = search needs
 
 returns : tie.Need-returns
-returns c = c .refuse .ensures ∙ ap handed (sym (next-foreign _ (c .before .before .before .args .engines) (stateAs _) (sym (c .before .before .is-own .ensures) ∙ not-true _ (c .before .if1 .taken))))
-
-refuse-requires-2 : tie.Need-refuse-requires-2
-refuse-requires-2 c κs = search needs
+returns c = c .done .ensures ∙ ap handed (next-by _ (c .before .before .before .before .before .before .args .engines) (stateAs (c .before .before .before .before .before .before .args .s)) (c .before .before .before .before .advance .ensures) (c .before .before .block .given .1))
 
 returns-2 : tie.Need-returns-2
-returns-2 c = c .refuse2 .ensures ∙ ap handed (sym (next-last _ (c .before .before .before .before .args .engines) (stateAs _) (sym (c .before .before .before .is-own .ensures) ∙ not-false _ (c .before .before .if1 .left)) (c .before .if2 .taken)))
-
-add-done : tie.Need-add-done
-add-done c = search needs
-
-done-requires : tie.Need-done-requires
-done-requires c κs = search needs
-
-returns-3 : tie.Need-returns-3
-returns-3 c = c .done .ensures ∙ ap handed (sym (next-is _ (c .before .before .before .before .args .engines) (stateAs _) (sym (c .before .before .before .is-own .ensures) ∙ not-false _ (c .before .before .if1 .left)) (c .before .if2 .left)))
+returns-2 c = c .refuse .ensures ∙ ap handed (next-by _ (c .before .before .before .before .before .before .args .engines) (stateAs (c .before .before .before .before .before .before .args .s)) (c .before .before .before .before .advance .ensures) (c .before .before .number .given .1))
 
 pub next-of-spec : {M : Type 1} → statement M
 next-of-spec =
     tie.close
     (tie.spec
-    is-own-requires
+    advance-requires
+    enum-known-block
+    done-requires
+    enum-known-number
     refuse-requires
     returns
-    refuse-requires-2
-    returns-2
-    add-done
-    done-requires
-    returns-3)
+    returns-2)

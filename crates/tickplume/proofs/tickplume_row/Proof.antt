@@ -7,7 +7,7 @@ use Rattle.paper.specs.declared.Row.{Row}
 use Rattle.paper.specs.Words.{engine}
 use Rattle.paper.specs.Answers.{rowTold}
 use Rattle.theorems.proofs.Listed.{row-listed}
-use Rattle.dispatcher.specs.Told.{rowAs}
+use Rattle.block_rows.specs.ByState.{rowAs}
 use Rattle.tickplume.specs.Face.{rowCall, entries, needing}
 use Rattle.state_entries.specs.StateEntries.{stateIn}
 use Rattle.tickplume.proofs.Telling.{tell-short, tell-refused, tell-answer, tell-next}

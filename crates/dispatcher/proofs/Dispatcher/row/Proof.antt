@@ -6,7 +6,8 @@ use borrow.Author.Needs.{needs}
 use Rattle.paper.specs.Answers.{rowTold}
 use Rattle.judge.proofs.Accepted.{accepted-as}
 use Rattle.judge.proofs.Asked.{asked-refused}
-use Rattle.dispatcher.specs.Told.{stateAs, rowBy}
+use Rattle.block_rows.specs.ByState.{rowBy}
+use Rattle.dispatcher.specs.Told.{stateAs}
 use Rattle.dispatcher.proofs.Rows.{row-table, asked-by}
 use Rattle.dispatcher.proofs.Dispatcher.row.Statement.{statement}
 use Rattle.dispatcher.proofs.Dispatcher.row.Tie as tie
@@ -32,13 +33,13 @@ place-of-requires c κs = search needs
 returns : tie.Need-returns
 unfolding rowTold
 returns c =
-    let start = c .before .before .before .before .before .before .before .before .before .before in
-    c .tell .ensures ∙ (asked-by (λ c m. rowBy c m (stateAs (start .args .self)) (start .args .engine)) _ (row-table (stateAs (start .args .self)) (start .args .engine)) (start .args .b .now) (c .before .before .before .before .before .before .before .before .rule-on .ensures) (c .before .before .before .before .judged .given .1))
+    let start = c .before .before .before .before .before .before .before .before .before .before .before in
+    c .tell .ensures ∙ (asked-by (λ c m. rowBy c m (start .args .self .block) (start .args .self .rows) (start .args .engine)) _ (row-table (stateAs (start .args .self)) (start .args .engine)) (start .args .b .now) (c .before .before .before .before .before .before .before .before .rule-on .ensures) (c .before .before .before .before .judged .given .1))
 
 returns-2 : tie.Need-returns-2
 unfolding rowTold
 returns-2 c =
-    let start = c .before .before .before .before .before .before .before .before .before in
+    let start = c .before .before .before .before .before .before .before .before .before .before in
     asked-refused (start .args .b .now) _ (c .before .before .before .before .before .before .before .rule-on .ensures .told) (c .before .before .before .judged2 .given .1) (c .before .number-of .ensures) (c .place-of .ensures)
 
 pub row-spec : {M : Type 1} → statement M

@@ -1,8 +1,8 @@
 -- `is_own`: against the rows of the block.
 -- Assumes nothing.
 use borrow.Author.Needs.{needs}
-use Rattle.dispatcher.proofs.is_own.Statement.{statement}
-use Rattle.dispatcher.proofs.is_own.Tie as tie
+use Rattle.block_rows.proofs.is_own.Statement.{statement}
+use Rattle.block_rows.proofs.is_own.Tie as tie
 
 rows-at-requires : tie.Need-rows-at-requires
 rows-at-requires c κs = search needs
