@@ -3,7 +3,7 @@
 ghost use mathlib.Core.Path.{_≡_};
 ghost use Prim.Native.Nat.{_≤_};
 ghost use Rattle.laws.specs.Lists.{same-list};
-ghost use Rattle.rotation.specs.Links.{linkOf};
+ghost use Rattle.links.specs.Links.{linkOf};
 ghost use Rattle.block_rows.specs.RowsBy.{rowsBy};
 ghost use Rattle.block_rows.specs.ByState.{stepAs, rowAs, stepBy, rowBy};
 use paper::Engine;

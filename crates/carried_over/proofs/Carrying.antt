@@ -22,8 +22,9 @@ use Rattle.theorems.proofs.Starts.{laid, later-runs}
 use Rattle.formed.specs.Formed.{Formed, tableOf}
 use Rattle.formed.proofs.Table.{table-engines, table-runs, table-ranged}
 use Rattle.tally.specs.Tally.{startsOf, endsOf}
-use Rattle.rotation.specs.Links.{sameCode, linkOf}
-use Rattle.rotation.proofs.Linking.{Narrow, same-code, link-at, edge-tells, link-code, formed-narrow}
+use Rattle.links.specs.Links.{sameCode, linkOf}
+use Rattle.links.proofs.Linking.{link-at}
+use Rattle.tally.proofs.Linked.{Narrow, same-code, edge-tells, link-code, formed-narrow}
 use Rattle.carried_over.specs.Carried.{carriesOf, carriedOf}
 
 -- what is carried, by the branch that code takes: always where linked, else where the chain's first row goes on

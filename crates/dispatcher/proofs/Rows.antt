@@ -22,8 +22,8 @@ use Rattle.judge.specs.declared.Ruling.{Ruling}
 use Rattle.judge.specs.Ruled.{Ruled}
 use Rattle.judge.proofs.Accepted.{accepted-as}
 use Rattle.judge.proofs.Asked.{asked-accepted}
-use Rattle.rotation.specs.Links.{linkOf}
-use Rattle.rotation.proofs.Linking.{link-read}
+use Rattle.links.specs.Links.{linkOf}
+use Rattle.tally.proofs.Linked.{link-read}
 use Rattle.block_rows.specs.RowsBy.{rowsBy}
 use Rattle.block_rows.specs.declared.Step.{Step}
 use Rattle.block_rows.specs.ByState.{stepAs, stepBy, rowBy}

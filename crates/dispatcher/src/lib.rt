@@ -4,7 +4,7 @@ ghost use mathlib.Core.Path.{_≡_};
 ghost use Prim.Native.Nat.{_≤_};
 ghost use Rattle.paper.specs.Outcome.{answer, refused};
 ghost use Rattle.paper.specs.Answers.{start, advanced, rowTold};
-ghost use Rattle.rotation.specs.Links.{linkOf};
+ghost use Rattle.links.specs.Links.{linkOf};
 ghost use Rattle.block_rows.specs.ByState.{rowAs};
 ghost use Rattle.dispatcher.specs.Told.{stateAs, handed, dispatchedAs, stateBy, nextBy};
 use block_rows::RowTold;

@@ -18,9 +18,9 @@ use Rattle.formed.specs.Formed.{tableOf}
 use Rattle.formed.proofs.Table.{table-engines, table-runs}
 use Rattle.tally.specs.Tally.{startsOf, endsOf}
 use Rattle.judge.specs.Ready.{Ready}
-use Rattle.rotation.specs.Links.{linkOf}
+use Rattle.links.specs.Links.{linkOf}
 use Rattle.carried_over.specs.Carried.{carriedOf}
-use Rattle.rotation.proofs.Linking.{link-read}
+use Rattle.tally.proofs.Linked.{link-read}
 use Rattle.carried_over.proofs.Carrying.{later-read}
 use Rattle.table_lines.specs.Parts.{dutyLines, runLines, tableLines}
 use Rattle.rotation_lines.specs.Parts.{chainLinesBy, loadsLineBy, rotationLinesBy}

@@ -18,8 +18,8 @@ use Rattle.paper.specs.Answers.{Reply}
 use Rattle.formed.specs.Formed.{Formed, tableOf}
 use Rattle.formed.proofs.Table.{table-ticks, table-engines}
 use Rattle.tally.specs.Tally.{startsOf, endsOf}
-use Rattle.rotation.specs.Links.{linkOf}
-use Rattle.rotation.proofs.Linking.{link-read}
+use Rattle.links.specs.Links.{linkOf}
+use Rattle.tally.proofs.Linked.{link-read}
 use Rattle.question.specs.Told.{replyOf}
 
 -- 18: an engine is one of the table's exactly where it is one of the reading's

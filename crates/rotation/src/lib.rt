@@ -1,27 +1,13 @@
 // The rotation: the chains of rows, and which row an engine runs in a block. It needs no more of a table than what holds the
 // first and the last unit of each row, as the tally tells it.
 ghost use mathlib.Core.Path.{_≡_};
-ghost use Prim.Native.Nat.{_≤_, _<_};
+ghost use Prim.Native.Nat.{_≤_};
 ghost use Rattle.paper.specs.Rotation.{firstOf, rowAt};
-ghost use Rattle.rotation.specs.Links.{sameCode, linkOf, IsLast, round};
+ghost use Rattle.links.specs.Links.{linkOf};
+ghost use Rattle.rotation.specs.Chains.{IsLast, round};
+use links::linked;
 use paper::Engine;
 use paper::Row;
-
-// Whether one duty holds both, of two edges.
-pub fn same_duty(g: u32, h: u32) -> bool
-    ensures { λ r. ⌜ r ≡ sameCode g h ⌝ }
-{
-    (g != 0) & (g == h)
-}
-
-// Whether the row after this one is chained to it.
-pub fn linked(starts: &[u32; 33], ends: &[u32; 33], row: Row) -> bool
-    requires { ⌜ row .0 < 32 ⌝ }
-    ensures { λ r. ⌜ r ≡ linkOf (now (starts .entry)) (now (ends .entry)) (row .0) ⌝ }
-{
-    let r = row.0 as usize;
-    same_duty(ends[r], starts[r + 1])
-}
 
 // The first row of a row's chain: down along the links.
 pub fn chain_first(starts: &[u32; 33], ends: &[u32; 33], row: Row) -> Row

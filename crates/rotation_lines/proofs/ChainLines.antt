@@ -15,7 +15,7 @@ use Rattle.paper.specs.Rotation.{firstOf, chainsBelow}
 use Rattle.paper.specs.Text.{printLine, chainWord, chainLine}
 use Rattle.paper.proofs.Rotation.{first-zero, first-cut}
 use Rattle.theorems.proofs.Chains.{InChain, in-chain, chain-below, chains-more}
-use Rattle.rotation.specs.Links.{IsLast}
+use Rattle.rotation.specs.Chains.{IsLast}
 use Rattle.print_numbers.specs.Puts.{Puts}
 
 -- the lines of the chains that begin below row k, of m rows

@@ -4,7 +4,7 @@ use mathlib.Core.List.{List, [], _∷_, _++_}
 use Rattle.laws.specs.Lists.{flat}
 use Rattle.paper.specs.Rotation.{chainsBelow}
 use Rattle.paper.specs.Text.{printLine, loadsWord, chainLine}
-use Rattle.rotation.specs.Links.{linkOf}
+use Rattle.links.specs.Links.{linkOf}
 use Rattle.carried_over.specs.Carried.{carriedOf}
 
 -- a line for each chain

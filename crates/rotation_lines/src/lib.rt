@@ -4,7 +4,7 @@ ghost use mathlib.Core.Path.{_≡_};
 ghost use Prim.Native.Nat.{_*_, _≤_};
 ghost use lib.ListN.{length};
 ghost use Rattle.paper.specs.Rotation.{firstOf};
-ghost use Rattle.rotation.specs.Links.{linkOf};
+ghost use Rattle.links.specs.Links.{linkOf};
 ghost use Rattle.carried_over.specs.Carried.{carriedOf};
 ghost use Rattle.print_numbers.specs.Puts.{Puts};
 ghost use Rattle.rotation_lines.specs.Parts.{chainLinesBy, rotationLinesBy};

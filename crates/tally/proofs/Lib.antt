@@ -1,2 +1,3 @@
 pub mod Edged
 pub mod Tallied
+pub mod Linked

@@ -8,7 +8,7 @@ use Rattle.laws.proofs.Lists.{Filled, filled-none, filled-more}
 use Rattle.paper.specs.declared.Row.{Row}
 use Rattle.paper.specs.Words.{engine}
 use Rattle.paper.specs.Rotation.{rowAt}
-use Rattle.rotation.specs.Links.{linkOf}
+use Rattle.links.specs.Links.{linkOf}
 use Rattle.block_rows.proofs.Filling.{rows-filled}
 use Rattle.block_rows.proofs.rows_at.Statement.{statement}
 use Rattle.block_rows.proofs.rows_at.Tie as tie

@@ -1,10 +1,22 @@
 -- `row_in`: the closed form of the rotation, by the first and the last row of the chain.
 -- Assumes nothing.
-use mathlib.Core.Path.{_∙_}
+use Prim.Native.Nat.{ℕ}
+use mathlib.Core.Path.{_≡_, sym, ap, _∙_}
+use mathlib.Core.Bool.{Bool}
 use borrow.Author.Needs.{needs}
-use Rattle.rotation.proofs.Linking.{row-by-ends}
+use Rattle.paper.specs.Words.{row, engine}
+use Rattle.paper.specs.Rotation.{firstOf, rowAt}
+use Rattle.theorems.proofs.Chains.{in-chain, row-reduced}
+use Rattle.rotation.specs.Chains.{IsLast, round}
 use Rattle.rotation.proofs.row_in.Statement.{statement}
 use Rattle.rotation.proofs.row_in.Tie as tie
+
+-- the row that an engine runs, by the first and the last row of its chain: no large number is added
+row-by-ends : (c : ℕ → Bool) (b : ℕ) {e first last : ℕ} → first ≡ firstOf c e → IsLast c e last
+    → round first last e b ≡ rowAt c b (engine e)
+row-by-ends c b {e} {first} {last} p i =
+    let z = row-reduced c b (in-chain c (i .after) (i .chained) (i .ends)) in
+    ap row (rw p (sym z))
 
 chain-first-requires : tie.Need-chain-first-requires
 chain-first-requires c κs = search needs

@@ -3,7 +3,7 @@
 use Prim.Native.Nat.{_-_}
 use borrow.Author.Needs.{needs}
 use Rattle.laws.proofs.Writing.{length-lent}
-use Rattle.rotation.specs.Links.{linkOf}
+use Rattle.links.specs.Links.{linkOf}
 use Rattle.rotation_lines.proofs.ChainLines.{Chained, chained-start, chained-more, chained-end}
 use Rattle.rotation_lines.proofs.put_chains.Statement.{statement}
 use Rattle.rotation_lines.proofs.put_chains.Tie as tie

@@ -1,14 +1,13 @@
 -- The links, by the edges alone, are those of the table. Rows at and past the engines have no run, so they are idle, and
 -- so are the entries past the end of the edges.
 -- Assumes nothing.
-use Prim.Native.Nat.{ℕ, _+_, _-_, _≤_, _<_}
+use Prim.Native.Nat.{ℕ, _+_, _-_, _<_}
 use mathlib.Core.Path.{_≡_, refl, sym, ap, _∙_, fun-ext}
-use mathlib.Core.Bool.{Bool, false}
 use mathlib.Core.List.{List}
 use native.Mathlib.Omega.{arith}
 use lib.Dec.{eqb}
 use lib.ListN.{length, getD, List·getD-eq-default}
-use borrow.Author.Tests.{eqb-true, eqb-false, eq-eqb, ne-eqb, lt-ltb, le-ltb}
+use borrow.Author.Tests.{eqb-true, eqb-false, eq-eqb, ne-eqb}
 use Rattle.laws.specs.Lists.{tab}
 use Rattle.laws.proofs.Cases.{by-cases, lt-or-le}
 use Rattle.laws.proofs.Lists.{length-tab, getD-tab}
@@ -16,15 +15,15 @@ use Rattle.paper.specs.declared.Run.{Run}
 use Rattle.paper.specs.declared.Reading.{Reading}
 use Rattle.paper.specs.declared.Held.{Held}
 use Rattle.paper.specs.declared.Held.the-variants.{Idle, By}
-use Rattle.paper.specs.Words.{row, engine, Table, runAt, heldIn, same}
-use Rattle.paper.specs.Rotation.{link, firstOf, rowAt}
+use Rattle.paper.specs.Words.{row, Table, runAt, heldIn, same}
+use Rattle.paper.specs.Rotation.{link}
 use Rattle.paper.proofs.Holding.{held-none, same-idle}
-use Rattle.theorems.proofs.Chains.{in-chain, row-reduced}
 use Rattle.paper.proofs.Links.{link-is}
 use Rattle.formed.specs.Formed.{Formed, tableOf}
 use Rattle.formed.proofs.Table.{table-runs, table-run}
+use Rattle.links.specs.Links.{sameCode, linkOf}
+use Rattle.links.proofs.Linking.{link-past, link-at}
 use Rattle.tally.specs.Tally.{code, edgeAt, startsOf, endsOf}
-use Rattle.rotation.specs.Links.{sameCode, linkOf, IsLast, round}
 
 -- one duty holds both exactly where the two codes are the same and not idle's
 pub same-code : (g h : Held) → sameCode (code g) (code h) ≡ same g h
@@ -34,16 +33,6 @@ same-code (By i) Idle = rw (ne-eqb (i + 1) 0 (λ e. omega arith))
 same-code (By i) (By j) =
     rw (ne-eqb (i + 1) 0 (λ e. omega arith))
     (by-cases (eqb i j) (λ p. rw p (eq-eqb (i + 1) (j + 1) (omega (arith, eqb-true i j p)))) (λ p. rw p (ne-eqb (i + 1) (j + 1) (λ e. eqb-false i j p (omega arith)))))
-
--- nothing is chained to a row past the 32
-pub link-past : (starts ends : List ℕ) {r : ℕ} → 32 ≤ r → linkOf starts ends r ≡ false
-unfolding linkOf
-link-past starts ends {r} h = rw (le-ltb r 32)
-
--- below, one duty at both edges is a link
-pub link-at : (starts ends : List ℕ) {r : ℕ} → r < 32 → sameCode (getD ends r 0) (getD starts (r + 1) 0) ≡ linkOf starts ends r
-unfolding linkOf
-link-at starts ends {r} h = rw (lt-ltb r 32)
 
 -- no run is on a row past the 32
 abbrev pub Narrow : List Run → Type 0
@@ -82,10 +71,3 @@ formed-narrow {b} {rd} F k h =
 pub link-read : {b : List ℕ} {rd : Reading} {starts ends : List ℕ} → Formed b rd → starts ≡ startsOf (tableOf b rd) → ends ≡ endsOf (tableOf b rd)
     → linkOf starts ends ≡ link (tableOf b rd)
 link-read {b} {rd} F p q = rw (p, q) (link-code (tableOf b rd) (formed-narrow F))
-
--- the row that an engine runs, by the first and the last row of its chain: no large number is added
-pub row-by-ends : (c : ℕ → Bool) (b : ℕ) {e first last : ℕ} → first ≡ firstOf c e → IsLast c e last
-    → round first last e b ≡ rowAt c b (engine e)
-row-by-ends c b {e} {first} {last} p i =
-    let z = row-reduced c b (in-chain c (i .after) (i .chained) (i .ends)) in
-    ap row (rw p (sym z))

@@ -2,9 +2,9 @@
 -- Assumes nothing.
 use mathlib.Core.Path.{_∙_}
 use borrow.Author.Needs.{needs}
-use Rattle.rotation.proofs.Linking.{link-at}
-use Rattle.rotation.proofs.linked.Statement.{statement}
-use Rattle.rotation.proofs.linked.Tie as tie
+use Rattle.links.proofs.Linking.{link-at}
+use Rattle.links.proofs.linked.Statement.{statement}
+use Rattle.links.proofs.linked.Tie as tie
 
 cast-r : tie.Need-cast-r
 cast-r c = search needs
