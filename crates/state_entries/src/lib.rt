@@ -1,17 +1,15 @@
-// A dispatcher's state as the entries of a lent list, taken and put.
+// A dispatcher's state as the entries of a lent list, the block and then the rows, taken and put.
 ghost use mathlib.Core.Path.{_≡_};
+ghost use mathlib.Core.List.{_∷_};
 ghost use Prim.Native.Nat.{_+_, _≤_, min};
 ghost use lib.ListN.{length, getD};
 ghost use Rattle.laws.specs.Lists.{over, tab};
-ghost use Rattle.dispatcher.specs.Told.{stateAs};
-ghost use Rattle.state_entries.specs.StateEntries.{stateEntries};
-use dispatcher::Dispatcher;
 use entries::narrow;
 
-// The dispatcher in a lent state.
-pub fn dispatcher_in(state: &[u64]) -> Dispatcher
+// The rows in a lent state.
+pub fn rows_in(state: &[u64]) -> [u32; 32]
     requires { ⌜ 33 ≤ length (now state) ⌝ }
-    ensures { λ r. ⌜ (r .block ≡ getD (now (state .entry)) 0 0) × (r .rows ≡ tab 32 (λ e. min (getD (now (state .entry)) (e + 1) 0) 4294967295)) ⌝ }
+    ensures { λ r. ⌜ r ≡ tab 32 (λ e. min (getD (now (state .entry)) (e + 1) 0) 4294967295) ⌝ }
 {
     let mut rows = [0u32; 32];
     let mut e = 0;
@@ -19,19 +17,15 @@ pub fn dispatcher_in(state: &[u64]) -> Dispatcher
         rows[e] = narrow(state[e + 1]);
         e += 1;
     }
-    Dispatcher {
-        block: state[0],
-        rows,
-    }
+    rows
 }
 
-// The dispatcher put into a lent state: the block, then the rows.
-pub fn put_state(state: &mut [u64], d: Dispatcher)
+// A block and its rows put into a lent state.
+pub fn put_state(state: &mut [u64], block: u64, rows: [u32; 32])
     requires { ⌜ 33 ≤ length (now state) ⌝ }
-    ensures { λ r. ⌜ now (state .exit) ≡ over (stateEntries (stateAs d)) (now (state .entry)) ⌝ }
+    ensures { λ r. ⌜ now (state .exit) ≡ over (block ∷ rows) (now (state .entry)) ⌝ }
 {
-    let rows = d.rows;
-    state[0] = d.block;
+    state[0] = block;
     let mut e = 0;
     while e < 32 {
         state[e + 1] = rows[e] as u64;

@@ -23,8 +23,7 @@ use Rattle.paper.specs.Answers.{State, rowsAt, rowTold, advanced}
 use Rattle.theorems.proofs.AcceptedBytes.{accepted-ranged}
 use Rattle.paper.proofs.Links.{closed, rows-end}
 use Rattle.paper.proofs.Rotation.{row-below}
-use Rattle.dispatcher.specs.declared.Dispatcher.{Dispatcher}
-use Rattle.dispatcher.specs.Told.{Handed, stateAs, handed}
+use Rattle.dispatcher.specs.Told.{Handed, handed}
 use Rattle.state_entries.specs.StateEntries.{stateIn}
 use Rattle.tickplume.proofs.Narrowed.{most, cut-same}
 
@@ -64,12 +63,15 @@ pub next-cut : (b l : List ℕ) → advanced b (cutState l) ≡ advanced b (stat
 unfolding advanced
 next-cut b l = asked-same b _ _ (λ t g. rw (own-same t g l))
 
--- a dispatcher taken from a state, asked for the row or for the next state
-taken-is : (l : List ℕ) (d : Dispatcher) → d .block ≡ getD l 0 0 → d .rows ≡ tab 32 (λ e. min (getD l (e + 1) 0) most) → stateAs d ≡ cutState l
-taken-is l d p q = λ i. record { block = p i; rows = q i }
+-- the block of a state and its entries cut to rows, asked for the row or for the next state
+abbrev AreCut : List ℕ → List ℕ → Type 0
+AreCut l rows = rows ≡ tab 32 (λ e. min (getD l (e + 1) 0) most)
 
-pub row-asked : (b l : List ℕ) (e : Engine) (d : Dispatcher) {o : Outcome Row} → d .block ≡ getD l 0 0 → d .rows ≡ tab 32 (λ k. min (getD l (k + 1) 0) most) → o ≡ rowTold b (stateAs d) e → o ≡ rowTold b (stateIn l) e
-row-asked b l e d p q h = h ∙ ap (λ (s : State). rowTold b s e) (taken-is l d p q) ∙ row-cut b l e
+abbrev taken : List ℕ → List ℕ → State
+taken l rows = record { block = getD l 0 0; rows = rows }
 
-pub next-asked : (b l : List ℕ) (d : Dispatcher) {r : Handed} → d .block ≡ getD l 0 0 → d .rows ≡ tab 32 (λ k. min (getD l (k + 1) 0) most) → r ≡ handed (advanced b (stateAs d)) → r ≡ handed (advanced b (stateIn l))
-next-asked b l d p q h = h ∙ ap (λ (s : State). handed (advanced b s)) (taken-is l d p q) ∙ ap handed (next-cut b l)
+pub row-asked : (b l : List ℕ) (e : Engine) (rows : List ℕ) {o : Outcome Row} → AreCut l rows → o ≡ rowTold b (taken l rows) e → o ≡ rowTold b (stateIn l) e
+row-asked b l e rows q h = h ∙ ap (λ rs. rowTold b (taken l rs) e) q ∙ row-cut b l e
+
+pub next-asked : (b l : List ℕ) (rows : List ℕ) {r : Handed} → AreCut l rows → r ≡ handed (advanced b (taken l rows)) → r ≡ handed (advanced b (stateIn l))
+next-asked b l rows q h = h ∙ ap (λ rs. handed (advanced b (taken l rs))) q ∙ ap handed (next-cut b l)

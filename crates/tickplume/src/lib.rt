@@ -16,8 +16,8 @@ use paper::Engine;
 use paper::Held;
 use paper::Judged;
 use question::Answer;
-use state_entries::dispatcher_in;
 use state_entries::put_state;
+use state_entries::rows_in;
 
 // SA1's plan of the duties, into the lent table.
 #[no_mangle]
@@ -100,7 +100,8 @@ pub extern "C" fn tickplume_start(table: &[u8], block: u64, state: &mut [u64]) -
         Verdict::Refused(number, place) => refusal(number, place),
         Verdict::Done => {
             let next = done.state;
-            put_state(state, next);
+            let rows = next.rows;
+            put_state(state, next.block, rows);
             0
         }
     }
@@ -117,7 +118,12 @@ pub extern "C" fn tickplume_row(table: &[u8], state: &[u64], engine: u32, answer
     if answer.len() < 1 {
         return refusal(255, 1);
     }
-    match dispatcher_in(state).row(table, Engine(engine)) {
+    let rows = rows_in(state);
+    let here = Dispatcher {
+        block: state[0],
+        rows,
+    };
+    match here.row(table, Engine(engine)) {
         RowTold::Refused(number, place) => refusal(number, place),
         RowTold::At(row) => {
             answer[0] = row.0 as u64;
@@ -134,13 +140,19 @@ pub extern "C" fn tickplume_next(table: &[u8], state: &mut [u64]) -> u64
     if state.len() < 33 {
         return refusal(255, 33);
     }
-    let done = dispatcher_in(state).next(table);
+    let rows = rows_in(state);
+    let here = Dispatcher {
+        block: state[0],
+        rows,
+    };
+    let done = here.next(table);
     let verdict = done.verdict;
     match verdict {
         Verdict::Refused(number, place) => refusal(number, place),
         Verdict::Done => {
             let next = done.state;
-            put_state(state, next);
+            let rows = next.rows;
+            put_state(state, next.block, rows);
             0
         }
     }

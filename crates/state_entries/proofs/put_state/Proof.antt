@@ -14,10 +14,10 @@ use Rattle.state_entries.proofs.put_state.Statement.{statement}
 use Rattle.state_entries.proofs.put_state.Tie as tie
 
 abbrev Inv-loop : tie.InvT-loop
-Inv-loop state₀ rows e₀ state e = (e ≤ 32) × (length rows ≡ 32) × (33 ≤ length state₀) × (length state ≡ length state₀) × Wrote (getD state₀ 0 0 ∷ rows) state₀ (drop e rows) state (e + 1)
+Inv-loop state₀ block rows e₀ state e = (e ≤ 32) × (length rows ≡ 32) × (33 ≤ length state₀) × (length state ≡ length state₀) × Wrote (getD state₀ 0 0 ∷ rows) state₀ (drop e rows) state (e + 1)
 
 abbrev μ-loop : tie.MeasureT-loop
-μ-loop state₀ rows e₀ state e = 32 - e
+μ-loop state₀ block rows e₀ state e = 32 - e
 
 slice-write-state : tie.Need-slice-write-state Inv-loop μ-loop
 slice-write-state c = search needs
@@ -51,7 +51,7 @@ loop-less c = search needs
 
 loop-again : tie.Need-loop-again Inv-loop μ-loop
 loop-again c =
-    let rows = c .before .before .before .args .d .rows in
+    let rows = c .before .before .args .t3 in
     let e = c .before .loop .e in
     let here : drop e rows ≡ getD rows e 0 ∷ drop (e + 1) rows = rw (add-one, drop-cons rows e 0 (search needs)) in (
       search needs,
@@ -62,13 +62,13 @@ loop-again c =
     )
 
 same-length : tie.Need-same-length Inv-loop μ-loop
-same-length c = c .before .loop .inv .3 ∙ length-set (c .before .before .before .args .state .now) 0 (c .before .before .before .args .d .block)
+same-length c = c .before .loop .inv .3 ∙ length-set (c .before .before .args .state .now) 0 (c .before .before .args .block)
 
 returns : tie.Need-returns Inv-loop μ-loop
 returns c =
-    let rows = c .before .before .before .args .d .rows in
+    let rows = c .before .before .args .t3 in
     let none : drop (c .before .loop .e) rows ≡ [] = drop-of-length-le rows {i = c .before .loop .e} (search needs) in
-    done _ _ (c .before .loop .state) (c .before .loop .e + 1) (next none (c .before .loop .inv .4)) ∙ opened-over (c .before .before .before .args .d .block) rows (c .before .before .before .args .state .now) (search needs)
+    done _ _ (c .before .loop .state) (c .before .loop .e + 1) (next none (c .before .loop .inv .4)) ∙ opened-over (c .before .before .args .block) rows (c .before .before .args .state .now) (search needs)
 
 pub put-state-spec : {M : Type 1} → statement M
 put-state-spec =

@@ -20,8 +20,11 @@ returns c =
     let args = c .before .before .before .before .args in
     tell-short (entries stateEntries (advanced (args .table .now) (stateIn (args .state .now)))) 33 _ (args .state .now) (args .state .now) (search needs) (c .refusal .ensures)
 
-dispatcher-in-requires : tie.Need-dispatcher-in-requires
-dispatcher-in-requires c κs = search needs
+rows-in-requires : tie.Need-rows-in-requires
+rows-in-requires c κs = search needs
+
+slice-read-t16 : tie.Need-slice-read-t16
+slice-read-t16 c = search needs
 
 next-requires : tie.Need-next-requires
 next-requires c κs = search needs
@@ -31,10 +34,10 @@ enum-known-verdict c = search needs
 
 refusal-requires-2 : tie.Need-refusal-requires-2
 refusal-requires-2 c κs =
-    let taken = c .before .before .before .before .dispatcher-in in
-    let args = c .before .before .before .before .before .before .before .before .before .args in
+    let taken = c .before .before .before .before .before .rows-in in
+    let args = c .before .before .before .before .before .before .before .before .before .before .args in
     let o = advanced (args .table .now) (stateIn (args .state .now)) in
-    let told = next-asked (args .table .now) (args .state .now) (taken .result) (taken .ensures .0) (taken .ensures .1) (c .before .before .before .next .ensures) in
+    let told = next-asked (args .table .now) (args .state .now) (taken .result) (taken .ensures) (c .before .before .before .next .ensures) in
     let z = next-listed (args .table .now) (stateIn (args .state .now)) _ _ (handed-refused (c .before .before .before .next .result) o _ _ told (c .before .verdict .given .1)) in
     (z .byte, z .place)
 
@@ -50,10 +53,10 @@ same-length c = search needs
 returns-2 : tie.Need-returns-2
 unfolding nextCall
 returns-2 c =
-    let taken = c .before .before .before .before .before .dispatcher-in in
-    let args = c .before .before .before .before .before .before .before .before .before .before .args in
+    let taken = c .before .before .before .before .before .before .rows-in in
+    let args = c .before .before .before .before .before .before .before .before .before .before .before .args in
     let o = advanced (args .table .now) (stateIn (args .state .now)) in
-    let told = next-asked (args .table .now) (args .state .now) (taken .result) (taken .ensures .0) (taken .ensures .1) (c .before .before .before .before .next .ensures) in
+    let told = next-asked (args .table .now) (args .state .now) (taken .result) (taken .ensures) (c .before .before .before .before .next .ensures) in
     tell-refused stateEntries o 33 _ _ _ (args .state .now) (search needs) (handed-refused (c .before .before .before .before .next .result) o _ _ told (c .before .before .verdict .given .1)) (c .refusal2 .ensures)
 
 same-length-2 : tie.Need-same-length-2
@@ -62,11 +65,11 @@ same-length-2 c = search needs
 returns-3 : tie.Need-returns-3
 unfolding nextCall
 returns-3 c =
-    let taken = c .before .before .before .before .before .before .before .before .dispatcher-in in
-    let args = c .before .before .before .before .before .before .before .before .before .before .before .before .before .args in
+    let taken = c .before .before .before .before .before .before .before .before .before .before .rows-in in
+    let args = c .before .before .before .before .before .before .before .before .before .before .before .before .before .before .before .args in
     let o = advanced (args .table .now) (stateIn (args .state .now)) in
-    let told = next-asked (args .table .now) (args .state .now) (taken .result) (taken .ensures .0) (taken .ensures .1) (c .before .before .before .before .before .before .before .next .ensures) in
-    tell-answer stateEntries o 33 _ (args .state .now) _ (search needs) (handed-done (c .before .before .before .before .before .before .before .next .result) o told (c .before .before .before .before .before .enum-told .given .1)) (c .before .before .put-state .ensures)
+    let told = next-asked (args .table .now) (args .state .now) (taken .result) (taken .ensures) (c .before .before .before .before .before .before .before .before .next .ensures) in
+    tell-answer stateEntries o 33 _ (args .state .now) _ (search needs) (handed-done (c .before .before .before .before .before .before .before .before .next .result) o told (c .before .before .before .before .before .before .enum-told .given .1)) (c .before .before .put-state .ensures)
 
 pub tickplume-next-spec : {M : Type 1} → statement M
 tickplume-next-spec =
@@ -74,7 +77,8 @@ tickplume-next-spec =
     (tie.spec
     refusal-requires
     returns
-    dispatcher-in-requires
+    rows-in-requires
+    slice-read-t16
     next-requires
     enum-known-verdict
     refusal-requires-2

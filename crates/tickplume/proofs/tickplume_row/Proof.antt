@@ -37,8 +37,11 @@ returns-2 c =
     tell-next 33 _ (args .state .now) (args .answer .now) (args .answer .now) (search needs)
     (tell-short (entries (λ (r : Row). r .0 ∷ []) o) 1 _ (args .answer .now) (args .answer .now) (search needs) (c .refusal2 .ensures))
 
-dispatcher-in-requires : tie.Need-dispatcher-in-requires
-dispatcher-in-requires c κs = search needs
+rows-in-requires : tie.Need-rows-in-requires
+rows-in-requires c κs = search needs
+
+shared-slice-read-t13 : tie.Need-shared-slice-read-t13
+shared-slice-read-t13 c = search needs
 
 row-requires : tie.Need-row-requires
 row-requires c κs = search needs
@@ -48,9 +51,9 @@ enum-known-number c = search needs
 
 refusal-requires-3 : tie.Need-refusal-requires-3
 refusal-requires-3 c κs =
-    let taken = c .before .before .before .before .dispatcher-in in
-    let args = c .before .before .before .before .before .before .before .before .before .before .args in
-    let told = row-asked (args .table .now) (args .state .now) (engine (args .engine)) (taken .result) (taken .ensures .0) (taken .ensures .1) (c .before .before .before .row .ensures) in
+    let taken = c .before .before .before .before .before .rows-in in
+    let args = c .before .before .before .before .before .before .before .before .before .before .before .args in
+    let told = row-asked (args .table .now) (args .state .now) (engine (args .engine)) (taken .result) (taken .ensures) (c .before .before .before .row .ensures) in
     let z = row-listed (args .table .now) (stateIn (args .state .now)) (engine (args .engine)) _ _ (sym told ∙ ap rowAs (c .before .number .given .1)) in
     (z .byte, z .place)
 
@@ -66,9 +69,9 @@ slice-write-answer c = search needs
 returns-3 : tie.Need-returns-3
 unfolding rowCall
 returns-3 c =
-    let taken = c .before .before .before .before .before .dispatcher-in in
-    let args = c .before .before .before .before .before .before .before .before .before .before .before .args in
-    let told = row-asked (args .table .now) (args .state .now) (engine (args .engine)) (taken .result) (taken .ensures .0) (taken .ensures .1) (c .before .before .before .before .row .ensures) in
+    let taken = c .before .before .before .before .before .before .rows-in in
+    let args = c .before .before .before .before .before .before .before .before .before .before .before .before .args in
+    let told = row-asked (args .table .now) (args .state .now) (engine (args .engine)) (taken .result) (taken .ensures) (c .before .before .before .before .row .ensures) in
     let o = rowTold (args .table .now) (stateIn (args .state .now)) (engine (args .engine)) in
     tell-next 33 _ (args .state .now) (args .answer .now) (args .answer .now) (search needs)
     (tell-refused (λ (r : Row). r .0 ∷ []) o 1 _ _ _ (args .answer .now) (search needs) (sym told ∙ ap rowAs (c .before .before .number .given .1)) (c .refusal3 .ensures))
@@ -79,9 +82,9 @@ same-length c = search needs
 returns-4 : tie.Need-returns-4
 unfolding rowCall
 returns-4 c =
-    let taken = c .before .before .before .before .before .dispatcher-in in
-    let args = c .before .before .before .before .before .before .before .before .before .before .before .args in
-    let told = row-asked (args .table .now) (args .state .now) (engine (args .engine)) (taken .result) (taken .ensures .0) (taken .ensures .1) (c .before .before .before .before .row .ensures) in
+    let taken = c .before .before .before .before .before .before .rows-in in
+    let args = c .before .before .before .before .before .before .before .before .before .before .before .before .args in
+    let told = row-asked (args .table .now) (args .state .now) (engine (args .engine)) (taken .result) (taken .ensures) (c .before .before .before .before .row .ensures) in
     let o = rowTold (args .table .now) (stateIn (args .state .now)) (engine (args .engine)) in
     tell-next 33 _ (args .state .now) (args .answer .now) _ (search needs)
     (tell-answer (λ (r : Row). r .0 ∷ []) o 1 _ (args .answer .now) _ (search needs) (sym told ∙ ap rowAs (c .before .before .row2 .given .1)) (stored-one _ (args .answer .now) (search needs)))
@@ -94,7 +97,8 @@ tickplume-row-spec =
     returns
     refusal-requires-2
     returns-2
-    dispatcher-in-requires
+    rows-in-requires
+    shared-slice-read-t13
     row-requires
     enum-known-number
     refusal-requires-3

@@ -53,10 +53,10 @@ same-length c = search needs
 returns-3 : tie.Need-returns-3
 unfolding startCall
 returns-3 c =
-    let args = c .before .before .before .before .before .before .before .before .before .before .before .args in
+    let args = c .before .before .before .before .before .before .before .before .before .before .before .before .args in
     let o = start (args .table .now) (args .block) in
-    let done = c .before .before .before .before .before .before .before .start in
-    tell-answer stateEntries o 33 _ (args .state .now) _ (search needs) (handed-done (done .result) o (done .ensures) (c .before .before .before .before .before .enum-told .given .1)) (c .before .before .put-state .ensures)
+    let done = c .before .before .before .before .before .before .before .before .start in
+    tell-answer stateEntries o 33 _ (args .state .now) _ (search needs) (handed-done (done .result) o (done .ensures) (c .before .before .before .before .before .before .enum-told .given .1)) (c .before .before .put-state .ensures)
 
 pub tickplume-start-spec : {M : Type 1} → statement M
 tickplume-start-spec =

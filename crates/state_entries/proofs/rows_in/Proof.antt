@@ -1,14 +1,14 @@
--- `dispatcher_in`: the rows are filled from the front, each with an entry of the state.
+-- `rows_in`: the rows are filled from the front, each with an entry of the state.
 -- Assumes nothing.
-use mathlib.Core.Path.{_≡_, refl}
+use mathlib.Core.Path.{_≡_}
 use Prim.Native.Nat.{ℕ, _+_, _-_, _≤_, min}
 use borrow.Author.Needs.{needs}
 use lib.ListN.{getD}
 use mathlib.Core.List.{List}
 use native.Mathlib.Omega.{arith}
 use Rattle.laws.proofs.Lists.{Filled, filled-more, filled-all, filled-none}
-use Rattle.state_entries.proofs.dispatcher_in.Statement.{statement}
-use Rattle.state_entries.proofs.dispatcher_in.Tie as tie
+use Rattle.state_entries.proofs.rows_in.Statement.{statement}
+use Rattle.state_entries.proofs.rows_in.Tie as tie
 
 -- what stands in the state for engine e
 abbrev entry : List ℕ → ℕ → ℕ
@@ -50,15 +50,12 @@ loop-less c = search needs
 loop-again : tie.Need-loop-again Inv-loop μ-loop
 loop-again c = (search needs, filled-more _ 32 (c .before .before .before .loop .e) _ _ (c .before .before .before .loop .inv .1) (search needs) (c .narrow .ensures))
 
-shared-slice-read-t14 : tie.Need-shared-slice-read-t14 Inv-loop μ-loop
-shared-slice-read-t14 c = search needs
-
 returns : tie.Need-returns Inv-loop μ-loop
 returns c =
-    let z : c .before .before .loop .e ≡ 32 = omega arith in (refl, filled-all _ 32 _ (rw z at (c .before .before .loop .inv .1)))
+    let z : c .before .loop .e ≡ 32 = omega arith in filled-all _ 32 _ (rw z at (c .before .loop .inv .1))
 
-pub dispatcher-in-spec : {M : Type 1} → statement M
-dispatcher-in-spec =
+pub rows-in-spec : {M : Type 1} → statement M
+rows-in-spec =
     tie.close
     (tie.spec
     Inv-loop
@@ -73,5 +70,4 @@ dispatcher-in-spec =
     add-e
     loop-less
     loop-again
-    shared-slice-read-t14
     returns)
