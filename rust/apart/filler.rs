@@ -185,11 +185,12 @@ pub fn judge(b: &[u8]) -> Result<Block, Refused> {
             taken[i][unit] = Some(r as u8);
         }
     }
-    for (i, &(c, d)) in duties.iter().enumerate() {
-        let units = rows.iter().flatten().filter(|&&held| held == Some(i as u8)).count() as u64;
-        if units != c / (d / ticks) {
-            return Err((17, i as u64));
-        }
+    let mut units = vec![0; count];
+    for held in rows.iter().flatten().flatten() {
+        units[*held as usize] += 1;
+    }
+    if let Some(i) = duties.iter().zip(&units).position(|(&(c, d), &n)| n != c / (d / ticks)) {
+        return Err((17, i as u64));
     }
     Ok(Block { ticks, duties, rows })
 }
