@@ -1,3 +1,4 @@
+-- By cases; searches, sums and divisors; lists, and texts laid over a buffer; bytes and fields; tests that decide a condition.
 pub mod Cases
 pub mod Search
 pub mod Sum
