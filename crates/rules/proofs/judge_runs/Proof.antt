@@ -7,6 +7,7 @@ use Rattle.formed.proofs.Table.{table-runs, table-duties, table-reading}
 use Rattle.rules.proofs.Found.{found-none, found-one}
 use mathlib.Core.Path.{_≡_, ap}
 use mathlib.Core.Bool.{false}
+use native.Mathlib.Omega.{arith}
 use lib.Dec.{ltb}
 use lib.ListN.{length}
 use Rattle.paper.specs.Outcome.{refused}
@@ -26,10 +27,10 @@ duties : (s : tie.Start) → length (table s .duties) ≡ s .args .rd .duties
 duties s = table-duties (s .args .b .now) (s .args .rd)
 
 cast-runs : tie.Need-cast-runs
-cast-runs c = search needs
+cast-runs c = omega arith
 
 bad-order-requires : tie.Need-bad-order-requires
-bad-order-requires c κs = search needs
+bad-order-requires c κs = c .before .before .pre .0
 
 returns : tie.Need-returns
 unfolding judgeRuns
@@ -42,7 +43,7 @@ ordered : (c : tie.Else1) → ltb (badOrder (table (c .before .before .before .b
 ordered c = found-none (c .before .bad-order .ensures) (runs (c .before .before .before .before)) (search needs)
 
 lowest-clash-requires : tie.Need-lowest-clash-requires
-lowest-clash-requires c κs = search needs
+lowest-clash-requires c κs = c .before .before .before .before .pre .0
 
 returns-2 : tie.Need-returns-2
 unfolding judgeRuns
@@ -57,7 +58,7 @@ apart : (c : tie.Else2) → ltb (lowest overlaps (table (c .before .before .befo
 apart c = found-none (c .before .lowest-clash .ensures) (runs (c .before .before .before .before .before .before)) (search needs)
 
 lowest-clash-requires-2 : tie.Need-lowest-clash-requires-2
-lowest-clash-requires-2 c κs = search needs
+lowest-clash-requires-2 c κs = c .before .before .before .before .before .before .pre .0
 
 returns-3 : tie.Need-returns-3
 unfolding judgeRuns
@@ -73,7 +74,7 @@ unjoined : (c : tie.Else3) → ltb (lowest joins (table (c .before .before .befo
 unjoined c = found-none (c .before .lowest-clash2 .ensures) (runs (c .before .before .before .before .before .before .before .before)) (search needs)
 
 lowest-clash-requires-3 : tie.Need-lowest-clash-requires-3
-lowest-clash-requires-3 c κs = search needs
+lowest-clash-requires-3 c κs = c .before .before .before .before .before .before .before .before .pre .0
 
 returns-4 : tie.Need-returns-4
 unfolding judgeRuns
@@ -90,10 +91,10 @@ single : (c : tie.Else4) → ltb (lowest twice (table (c .before .before .before
 single c = found-none (c .before .lowest-clash3 .ensures) (runs (c .before .before .before .before .before .before .before .before .before .before)) (search needs)
 
 bad-sum-requires : tie.Need-bad-sum-requires
-bad-sum-requires c κs = search needs
+bad-sum-requires c κs = c .before .before .before .before .before .before .before .before .before .before .pre
 
 cast-if5 : tie.Need-cast-if5
-cast-if5 c = search needs
+cast-if5 c = omega arith
 
 returns-5 : tie.Need-returns-5
 unfolding judgeRuns

@@ -3,7 +3,6 @@
 use Prim.Native.Nat.{_-_, _≤_, _<_}
 use mathlib.Core.Path.{_∙_, _≡_, refl, ap}
 use native.Mathlib.Omega.{arith}
-use borrow.Author.Needs.{needs}
 use lib.ListN.{length}
 use Rattle.paper.specs.Bytes.{mostTicks}
 use Rattle.formed.specs.Formed.{tableOf}
@@ -21,10 +20,10 @@ abbrev μ-loop : tie.MeasureT-loop
 μ-loop b rd units₀ starts₀ ends₀ last k₀ units starts ends k = k
 
 sub-last : tie.Need-sub-last Inv-loop μ-loop
-sub-last c = search needs
+sub-last c = omega arith
 
 cast-k : tie.Need-cast-k Inv-loop μ-loop
-cast-k c = search needs
+cast-k c = omega arith
 
 loop-holds : tie.Need-loop-holds Inv-loop μ-loop
 loop-holds c =
@@ -32,25 +31,25 @@ loop-holds c =
     let rd = c .before .before .before .args .rd in
     let xs = tableOf b rd .runs in
     let all : length xs ≤ rd .runs = omega (arith, table-runs b rd) in
-    (search needs, units-none xs (rd .runs) all, edge-none xs 0 (rd .runs) all, edge-none xs (rd .«block_length» - 1) (rd .runs) all, search needs)
+    (omega arith, units-none xs (rd .runs) all, edge-none xs 0 (rd .runs) all, edge-none xs (rd .«block_length» - 1) (rd .runs) all, refl)
 
 sub-k : tie.Need-sub-k Inv-loop μ-loop
-sub-k c = search needs
+sub-k c = omega arith
 
 run-of-requires : tie.Need-run-of-requires Inv-loop μ-loop
-run-of-requires c κs = search needs
+run-of-requires c κs = (c .before .before .before .before .before .pre, omega arith)
 
 cast-d : tie.Need-cast-d Inv-loop μ-loop
-cast-d c = search needs
+cast-d c = omega arith
 
 cast-r : tie.Need-cast-r Inv-loop μ-loop
-cast-r c = search needs
+cast-r c = omega arith
 
 mul-units : tie.Need-mul-units Inv-loop μ-loop
-mul-units c = search needs
+mul-units c = omega arith
 
 array-read-units : tie.Need-array-read-units Inv-loop μ-loop
-array-read-units c = search needs
+array-read-units c = omega arith
 
 add-units : tie.Need-add-units Inv-loop μ-loop
 add-units c =
@@ -58,44 +57,44 @@ add-units c =
     let xs = tableOf (start .args .b .now) (start .args .rd) .runs in
     let run-of = c .before .before .before .run-of in
     let x = run-of .result in
-    let duty-few : x .duty < 64 = omega (arith, run-of .ensures .1 .duty-below, start .pre .duties-most) in
+    let duty-few : x .duty < 64 = array-read-units (c .before) in
     omega (arith, rw (← c .before .before .before .before .before .loop .inv .1) at (units-bound mostTicks xs (c .before .before .before .before .before .loop .k) (x .duty) (units-ranged (start .pre)) duty-few), table-runs (start .args .b .now) (start .args .rd), start .pre .runs-most, run-of .ensures .1 .inside, start .pre .ticks-most)
 
 array-write-units : tie.Need-array-write-units Inv-loop μ-loop
-array-write-units c = search needs
+array-write-units c = array-read-units (c .before)
 
 mul-edge : tie.Need-mul-edge Inv-loop μ-loop
-mul-edge c = search needs
+mul-edge c = omega arith
 
 array-read-edge : tie.Need-array-read-edge Inv-loop μ-loop
-array-read-edge c = search needs
+array-read-edge c = omega arith
 
 edge-requires : tie.Need-edge-requires Inv-loop μ-loop
-edge-requires c κs = search needs
+edge-requires c κs = omega arith
 
 mul-starts : tie.Need-mul-starts Inv-loop μ-loop
-mul-starts c = search needs
+mul-starts c = mul-edge (c .before)
 
 array-write-starts : tie.Need-array-write-starts Inv-loop μ-loop
-array-write-starts c = search needs
+array-write-starts c = array-read-edge (c .before)
 
 mul-edge-2 : tie.Need-mul-edge-2 Inv-loop μ-loop
-mul-edge-2 c = search needs
+mul-edge-2 c = mul-edge (c .before)
 
 array-read-edge-2 : tie.Need-array-read-edge-2 Inv-loop μ-loop
-array-read-edge-2 c = search needs
+array-read-edge-2 c = array-read-edge (c .before)
 
 edge-requires-2 : tie.Need-edge-requires-2 Inv-loop μ-loop
-edge-requires-2 c κs = search needs
+edge-requires-2 c κs = edge-requires (c .before) κs
 
 mul-ends : tie.Need-mul-ends Inv-loop μ-loop
-mul-ends c = search needs
+mul-ends c = mul-edge (c .before .before)
 
 array-write-ends : tie.Need-array-write-ends Inv-loop μ-loop
-array-write-ends c = search needs
+array-write-ends c = array-read-edge-2 (c .before)
 
 loop-less : tie.Need-loop-less Inv-loop μ-loop
-loop-less c = search needs
+loop-less c = omega arith
 
 loop-again : tie.Need-loop-again Inv-loop μ-loop
 loop-again c =
@@ -104,14 +103,14 @@ loop-again c =
     let loop = c .before .before .before .before .before .before .before .loop in
     let run-of = c .before .before .before .before .before .run-of in
     let x = run-of .result in
-    let few : loop .k ≤ length xs = omega (arith, table-runs (start .args .b .now) (start .args .rd)) in
-    let duty-few : x .duty < 64 = omega (arith, run-of .ensures .1 .duty-below, start .pre .duties-most) in
-    let row-few : x .row .0 < 33 = omega (arith, run-of .ensures .1 .row-below, start .pre .engines-most) in (
-      search needs,
-      units-back xs x (search needs) few (run-of .ensures .0) duty-few (loop .inv .1) refl,
-      edge-back xs 0 x (search needs) few (run-of .ensures .0) row-few (loop .inv .2) (c .before .edge .ensures),
-      edge-back xs _ x (search needs) few (run-of .ensures .0) row-few (loop .inv .3) (c .edge2 .ensures),
-      search needs,
+    let few : loop .k ≤ length xs = rw (table-runs (start .args .b .now) (start .args .rd)) (loop .inv .0) in
+    let duty-few : x .duty < 64 = array-read-units (c .before .before .before) in
+    let row-few : x .row .0 < 33 = array-read-edge (c .before .before) in (
+      omega arith,
+      units-back xs x (c .before .before .before .before .before .before .loop-test .taken) few (run-of .ensures .0) duty-few (loop .inv .1) refl,
+      edge-back xs 0 x (c .before .before .before .before .before .before .loop-test .taken) few (run-of .ensures .0) row-few (loop .inv .2) (c .before .edge .ensures),
+      edge-back xs _ x (c .before .before .before .before .before .before .loop-test .taken) few (run-of .ensures .0) row-few (loop .inv .3) (c .edge2 .ensures),
+      loop .inv .4,
     )
 
 returns : tie.Need-returns Inv-loop μ-loop
@@ -119,7 +118,7 @@ returns c =
     let start = c .before .before .before .before .before in
     let loop = c .before .loop in
     let t = tableOf (start .args .b .now) (start .args .rd) in
-    let none : loop .k ≡ 0 = search needs in (
+    let none : loop .k ≡ 0 = omega arith in (
       loop .inv .1 ∙ ap (unitsFrom (t .runs)) none ∙ units-all t,
       loop .inv .2 ∙ ap (edgeFrom (t .runs) 0) none ∙ edge-all (t .runs) 0,
       loop .inv .3 ∙ rw (none, loop .inv .4, ← table-ticks _ _ (start .pre)) (edge-all (t .runs) (t .ticks - 1)),

@@ -1,10 +1,13 @@
 -- `put_table`: the head over the front, then duties, runs and end, each behind the last.
 -- Assumes nothing.
-use Prim.Native.Nat.{ℕ, _+_, _*_}
+use Prim.Native.Nat.{ℕ, _+_, _*_, _≤_}
 use mathlib.Core.Path.{sym, ap, _∙_}
 use mathlib.Core.List.{List}
 use native.Mathlib.Omega.{arith}
+use native.Mathlib.Nat.{le-refl}
 use lib.ListN.{length}
+use mir.Syntax.{w32}
+use mir.Val.{Fits}
 use Rattle.laws.specs.Lists.{flat, over}
 use Rattle.paper.specs.Sa1.{slices}
 use Rattle.paper.specs.Bytes.{dutyBytes, endBytes}
@@ -15,69 +18,71 @@ use Rattle.write_runs.specs.RunBytes.{runsBytes}
 use Rattle.write_runs.proofs.RunBytes.{runs-bytes}
 use Rattle.theorems.proofs.Planned.{length-duties}
 use Rattle.write_table.proofs.Table.{duties-bytes, table-is, head-of-length, parts-written}
-use borrow.Author.Needs.{needs}
 use Rattle.write_table.proofs.put_table.Statement.{statement}
 use Rattle.write_table.proofs.put_table.Tie as tie
 
+few-fit : (n k : ℕ) → n ≤ 64 → k ≤ 2 * n → Fits w32 k
+few-fit n k h l = omega arith
+
 cast-put-head : tie.Need-cast-put-head
-cast-put-head c = search needs
+cast-put-head c = omega arith
 
 put-head-requires : tie.Need-put-head-requires
-put-head-requires c κs = search needs
+put-head-requires c κs = omega arith
 
 sub-put-duties : tie.Need-sub-put-duties
-sub-put-duties c = search needs
+sub-put-duties c = omega arith
 
 part-put-duties-start : tie.Need-part-put-duties-start
-part-put-duties-start c = search needs
+part-put-duties-start c = sub-put-duties c
 
 part-put-duties-end : tie.Need-part-put-duties-end
-part-put-duties-end c = search needs
+part-put-duties-end c = le-refl _
 
 put-duties-requires : tie.Need-put-duties-requires
-put-duties-requires c κs = search needs
+put-duties-requires c κs = (c .before .before .before .before .before .before .before .before .pre .0 .paired, omega arith)
 
 mul-runs-start : tie.Need-mul-runs-start
-mul-runs-start c = search needs
+mul-runs-start c = omega arith
 
 add-runs-start : tie.Need-add-runs-start
-add-runs-start c = search needs
+add-runs-start c = omega arith
 
 sub-put-runs : tie.Need-sub-put-runs
-sub-put-runs c = search needs
+sub-put-runs c = omega arith
 
 part-put-runs-start : tie.Need-part-put-runs-start
-part-put-runs-start c = search needs
+part-put-runs-start c = sub-put-runs c
 
 part-put-runs-end : tie.Need-part-put-runs-end
-part-put-runs-end c = search needs
+part-put-runs-end c = le-refl _
 
 put-runs-requires : tie.Need-put-runs-requires
-put-runs-requires c κs = search needs
+put-runs-requires c κs = (c .before .before .before .before .before .before .before .before .before .before .before .before .pre .0, omega arith)
 
 mul-end : tie.Need-mul-end
-mul-end c = search needs
+mul-end c = omega arith
 
 add-end : tie.Need-add-end
-add-end c = search needs
+add-end c = omega arith
 
 sub-put-end : tie.Need-sub-put-end
-sub-put-end c = search needs
+sub-put-end c = omega arith
 
 part-put-end-start : tie.Need-part-put-end-start
-part-put-end-start c = search needs
+part-put-end-start c = sub-put-end c
 
 part-put-end-end : tie.Need-part-put-end-end
-part-put-end-end c = search needs
+part-put-end-end c = le-refl _
 
 cast-put-end : tie.Need-cast-put-end
-cast-put-end c = search needs
+cast-put-end c = few-fit _ _ (c .before .before .before .before .before .before .before .before .before .before .before .before .before .before .before .before .pre .0 .paired .few) (c .before .before .before .before .before .before .before .before .before .before .before .before .before .before .before .before .pre .2)
 
 put-end-requires : tie.Need-put-end-requires
-put-end-requires c κs = search needs
+put-end-requires c κs = omega arith
 
 same-length : tie.Need-same-length
-same-length c = search needs
+same-length c = c .before .out4 .given .1 ∙ c .before .before .before .before .before .out3 .given .1 ∙ c .before .before .before .before .before .before .before .before .before .out2 .given .1 ∙ c .before .before .before .before .before .before .before .before .before .before .before .before .before .out .given
 
 returns : tie.Need-returns
 returns c =
