@@ -8,11 +8,16 @@ ghost use Rattle.paper.specs.Bytes.{small, dutyBytes, encode};
 ghost use Rattle.paper.specs.Builder.{dutiesOf};
 ghost use Rattle.duties.specs.Ready.{Paired, Ready};
 ghost use Rattle.places.specs.Laying.{laidFrom, corner};
+ghost use Rattle.write_runs.specs.RunBytes.{runsBytes};
 use duties::duty_at;
+use duties::slice_at;
+use paper::Row;
+use places::Place;
+use places::after;
 use write_records::put_duty;
 use write_records::put_end;
 use write_records::put_head;
-use write_runs::put_runs;
+use write_runs::put_duty_runs;
 
 // Writes the duties over the front of the lent rest.
 fn put_duties(out: &mut [u8], services: &[u32], periods: &[u32])
@@ -24,6 +29,25 @@ fn put_duties(out: &mut [u8], services: &[u32], periods: &[u32])
     while i < services.len() {
         put_duty(&mut out[at..], duty_at(services, periods, i));
         at += 9;
+        i += 1;
+    }
+}
+
+// Writes SA1's runs over the front of the lent rest, each duty's where the last one's stopped.
+fn put_runs(out: &mut [u8], t: u32, services: &[u32], periods: &[u32])
+    requires { ⌜ Ready t (now services) (now periods) × (11 * length (laidFrom t (slices t (dutiesOf (now services) (now periods))) 0 corner) ≤ length (now out)) ⌝ }
+    ensures { λ r. ⌜ now (out .exit) ≡ over (runsBytes (laidFrom t (slices t (dutiesOf (now (services .entry)) (now (periods .entry)))) 0 corner)) (now (out .entry)) ⌝ }
+{
+    let mut at = 0;
+    let mut place = Place {
+        row: Row(0),
+        unit: 0,
+    };
+    let mut i = 0;
+    while i < services.len() {
+        let n = slice_at(t, services, periods, i);
+        at += put_duty_runs(&mut out[at..], t, n, i as u32, place);
+        place = after(t, n, place);
         i += 1;
     }
 }

@@ -2,13 +2,13 @@
 -- Assumes nothing.
 use Prim.Native.Nat.{ℕ, _+_, _*_, _-_, _≤_, _<_}
 use mathlib.Core.Path.{_≡_, refl, ap, _∙_}
+use native.Mathlib.Nat.{le-refl}
 use native.Mathlib.Omega.{arith}
-use borrow.Author.Needs.{needs}
 use lib.ListN.{length, take, drop}
 use Rattle.laws.specs.Lists.{flat, over}
 use Rattle.paper.specs.declared.Duty.{Duty}
 use Rattle.laws.proofs.Lists.{flat-left, flat-none}
-use Rattle.laws.proofs.Writing.{Wrote, start, more, next, moved, done, length-lent}
+use Rattle.laws.proofs.Writing.{Wrote, start, more, next, moved, done}
 use Rattle.paper.specs.Words.{duty, dutyAt}
 use Rattle.paper.specs.Bytes.{dutyBytes}
 use Rattle.paper.specs.Builder.{dutiesOf}
@@ -26,31 +26,31 @@ abbrev μ-loop : tie.MeasureT-loop
 μ-loop out₀ services periods at₀ i₀ out at i = length services - i
 
 loop-holds : tie.Need-loop-holds Inv-loop μ-loop
-loop-holds c = (search needs, refl, refl, start _ _)
+loop-holds c = (omega arith, refl, refl, start _ _)
 
 sub-put-duty : tie.Need-sub-put-duty Inv-loop μ-loop
-sub-put-duty c = search needs
+sub-put-duty c = omega arith
 
 part-put-duty-start : tie.Need-part-put-duty-start Inv-loop μ-loop
-part-put-duty-start c = search needs
+part-put-duty-start c = sub-put-duty c
 
 part-put-duty-end : tie.Need-part-put-duty-end Inv-loop μ-loop
-part-put-duty-end c = search needs
+part-put-duty-end c = le-refl _
 
 duty-at-requires : tie.Need-duty-at-requires Inv-loop μ-loop
-duty-at-requires c κs = search needs
+duty-at-requires c κs = (c .before .loop-test .taken, c .before .before .before .before .before .before .pre .0 .same)
 
 put-duty-requires : tie.Need-put-duty-requires Inv-loop μ-loop
-put-duty-requires c κs = rw length-lent (search needs)
+put-duty-requires c κs = omega arith
 
 add-at : tie.Need-add-at Inv-loop μ-loop
-add-at c = search needs
+add-at c = omega arith
 
 add-i : tie.Need-add-i Inv-loop μ-loop
-add-i c = search needs
+add-i c = omega arith
 
 loop-less : tie.Need-loop-less Inv-loop μ-loop
-loop-less c = search needs
+loop-less c = omega arith
 
 loop-again : tie.Need-loop-again Inv-loop μ-loop
 loop-again c =
@@ -60,18 +60,18 @@ loop-again c =
     let ps = args .periods .now in
     let ds = dutiesOf ss ps in
     let i = loop .i in
-    let h : i < length ds = omega (arith, length-duties ss ps) in
+    let h : i < length ds = rw (length-duties ss ps) (c .before .before .before .before .before .loop-test .taken) in
     let here = flat-left dutyBytes (duty 0 0) ds i h in (
-      search needs,
-      search needs,
-      search needs,
+      omega arith,
+      omega arith,
+      c .before .out .given .1 ∙ loop .inv .2,
       moved (ap (λ (n : ℕ). loop .at + n) (length-duty (dutyAt ds i)))
           (more _ _ (flat dutyBytes (drop (i + 1) ds)) (loop .out) (dutyBytes (dutyAt ds i)) _ (loop .at) (next here (loop .inv .3))
           (c .before .before .put-duty .ensures ∙ ap (λ (x : Duty). over (dutyBytes x) (take (length (loop .out) - loop .at) (drop (loop .at) (loop .out)))) (c .before .before .before .duty-at .ensures))),
     )
 
 same-length : tie.Need-same-length Inv-loop μ-loop
-same-length c = search needs
+same-length c = c .before .loop .inv .2
 
 returns : tie.Need-returns Inv-loop μ-loop
 returns c =

@@ -12,10 +12,10 @@ use Rattle.paper.specs.Builder.{dutiesOf}
 use Rattle.places.specs.Laying.{laidAt, laidFrom, corner}
 use Rattle.theorems.proofs.Planned.{length-duties}
 use Rattle.places.proofs.Laying.{count-left}
 use Rattle.write_runs.specs.RunBytes.{runsBytes}
 use Rattle.write_runs.proofs.RunBytes.{bytes-left, bytes-none, bytes-length}
-use Rattle.write_runs.proofs.put_runs.Statement.{statement}
-use Rattle.write_runs.proofs.put_runs.Tie as tie
+use Rattle.write_table.proofs.put_runs.Statement.{statement}
+use Rattle.write_table.proofs.put_runs.Tie as tie
 
 in-duties : (ss ps : List ℕ) (i : ℕ) → i < length ss → i < length (dutiesOf ss ps)
 in-duties ss ps i h = rw (length-duties ss ps) h
