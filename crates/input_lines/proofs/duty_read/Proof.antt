@@ -23,7 +23,7 @@ sub-number-of : tie.Need-sub-number-of
 sub-number-of c = duty-parts (c .before .before .before .before .args .c .now) (c .before .before .find .result) (c .before .before .find .ensures .0) (c .before .before .before .before .pre) .0
 
 part-number-of-start : tie.Need-part-number-of-start
-part-number-of-start c = duty-parts (c .before .before .before .before .args .c .now) (c .before .before .find .result) (c .before .before .find .ensures .0) (c .before .before .before .before .pre) .0
+part-number-of-start c = sub-number-of c
 
 part-number-of-end : tie.Need-part-number-of-end
 part-number-of-end c = search needs

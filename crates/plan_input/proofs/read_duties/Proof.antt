@@ -75,7 +75,7 @@ mul-periods : tie.Need-mul-periods Inv-loop μ-loop
 mul-periods c = search needs
 
 array-write-periods : tie.Need-array-write-periods Inv-loop μ-loop
-array-write-periods c = good-parts _ _ _ (sym (c .before .before .before .line-good .ensures) ∙ not-false _ (c .before .before .if1 .left)) .1
+array-write-periods c = array-write-services c
 
 add-i : tie.Need-add-i Inv-loop μ-loop
 add-i c = search needs

@@ -47,7 +47,7 @@ sub-read-duties : tie.Need-sub-read-duties
 sub-read-duties c = first-parts (c .before .before .before .before .before .before .before .args .b .now) (c .before .before .before .before .find .result) (sym (c .before .before .before .first-line-good .ensures) ∙ not-false _ (c .before .before .if2 .left)) .0
 
 part-read-duties-start : tie.Need-part-read-duties-start
-part-read-duties-start c = first-parts (c .before .before .before .before .before .before .before .args .b .now) (c .before .before .before .before .find .result) (sym (c .before .before .before .first-line-good .ensures) ∙ not-false _ (c .before .before .if2 .left)) .0
+part-read-duties-start c = sub-read-duties c
 
 part-read-duties-end : tie.Need-part-read-duties-end
 part-read-duties-end c = search needs

@@ -1,41 +1,46 @@
 -- `put_line`: the word, the numbers behind it, the line feed behind both.
 -- Assumes nothing.
-use mathlib.Core.Path.{sym, ap}
+use mathlib.Core.Path.{_≡_, sym, ap}
 use Prim.Native.Nat.{_+_}
 use mathlib.Core.List.{[], _∷_}
 use native.Mathlib.Omega.{arith}
 use lib.ListN.{length, length-set}
 use Rattle.laws.specs.Lists.{flat}
 use Rattle.laws.proofs.Writing.{more, stored, moved, done, length-lent}
+use Rattle.paper.specs.Text.{printLine}
 use Rattle.print_numbers.specs.Spaced.{spaced}
 use Rattle.print_lines.proofs.Line.{word-written, line-length, line-room}
 use borrow.Author.Needs.{needs}
 use Rattle.print_lines.proofs.put_line.Statement.{statement}
 use Rattle.print_lines.proofs.put_line.Tie as tie
 
+-- a line has its word, its numbers and the line feed
+parts : (s : tie.Start) → length (printLine (s .args .word .now) (s .args .numbers .now)) ≡ length (s .args .word .now) + length (flat spaced (s .args .numbers .now)) + 1
+parts s = line-length (s .args .word .now) (s .args .numbers .now)
+
 put-bytes-requires : tie.Need-put-bytes-requires
-put-bytes-requires c κs = omega (arith, line-length (c .before .before .before .before .args .word .now) (c .before .before .before .before .args .numbers .now))
+put-bytes-requires c κs = omega (arith, parts (c .before .before .before .before))
 
 sub-put-numbers : tie.Need-sub-put-numbers
-sub-put-numbers c = omega (arith, line-length (c .before .before .before .before .before .before .before .args .word .now) (c .before .before .before .before .before .before .before .args .numbers .now))
+sub-put-numbers c = omega (arith, parts (c .before .before .before .before .before .before .before))
 
 part-put-numbers-start : tie.Need-part-put-numbers-start
-part-put-numbers-start c = omega (arith, line-length (c .before .before .before .before .before .before .before .args .word .now) (c .before .before .before .before .before .before .before .args .numbers .now))
+part-put-numbers-start c = sub-put-numbers c
 
 part-put-numbers-end : tie.Need-part-put-numbers-end
 part-put-numbers-end c = search needs
 
 put-numbers-requires : tie.Need-put-numbers-requires
-put-numbers-requires c κs = rw length-lent (omega (arith, line-length (c .before .before .before .before .before .before .before .before .args .word .now) (c .before .before .before .before .before .before .before .before .args .numbers .now)))
+put-numbers-requires c κs = rw length-lent (omega (arith, parts (c .before .before .before .before .before .before .before .before)))
 
 add-end : tie.Need-add-end
-add-end c = omega (arith, line-length (c .before .before .before .before .before .before .before .before .before .before .before .args .word .now) (c .before .before .before .before .before .before .before .before .before .before .before .args .numbers .now))
+add-end c = omega (arith, parts (c .before .before .before .before .before .before .before .before .before .before .before))
 
 slice-write-out : tie.Need-slice-write-out
-slice-write-out c = omega (arith, line-length (c .before .before .before .before .before .before .before .before .before .before .before .args .word .now) (c .before .before .before .before .before .before .before .before .before .before .before .args .numbers .now))
+slice-write-out c = omega (arith, parts (c .before .before .before .before .before .before .before .before .before .before .before))
 
 add-result : tie.Need-add-result
-add-result c = omega (arith, line-length (c .before .before .before .before .before .before .before .before .before .before .before .args .word .now) (c .before .before .before .before .before .before .before .before .before .before .before .args .numbers .now))
+add-result c = omega (arith, parts (c .before .before .before .before .before .before .before .before .before .before .before))
 
 same-length : tie.Need-same-length
 same-length c = rw length-set (search needs)

@@ -24,7 +24,7 @@ sub-put-number : tie.Need-sub-put-number Inv-loop μ-loop
 sub-put-number c = omega (arith, listing-at (c .before .loop .inv))
 
 part-put-number-start : tie.Need-part-put-number-start Inv-loop μ-loop
-part-put-number-start c = omega (arith, listing-at (c .before .loop .inv))
+part-put-number-start c = sub-put-number c
 
 part-put-number-end : tie.Need-part-put-number-end Inv-loop μ-loop
 part-put-number-end c = search needs

@@ -54,9 +54,7 @@ sub-put-duty c =
     omega (arith, duties-most (start .args .b .now) (start .args .rd) (start .pre .0), listing-at (c .before .loop .inv))
 
 part-put-duty-start : tie.Need-part-put-duty-start Inv-loop μ-loop
-part-put-duty-start c =
-    let start = c .before .before .before .before .before in
-    omega (arith, duties-most (start .args .b .now) (start .args .rd) (start .pre .0), listing-at (c .before .loop .inv))
+part-put-duty-start c = sub-put-duty c
 
 part-put-duty-end : tie.Need-part-put-duty-end Inv-loop μ-loop
 part-put-duty-end c = search needs

@@ -41,9 +41,7 @@ sub-put-run c =
     omega (arith, runs-most (start .args .b .now) (start .args .rd) (start .pre .0), listing-at (c .before .loop .inv))
 
 part-put-run-start : tie.Need-part-put-run-start Inv-loop μ-loop
-part-put-run-start c =
-    let start = c .before .before .before .before .before in
-    omega (arith, runs-most (start .args .b .now) (start .args .rd) (start .pre .0), listing-at (c .before .loop .inv))
+part-put-run-start c = sub-put-run c
 
 part-put-run-end : tie.Need-part-put-run-end Inv-loop μ-loop
 part-put-run-end c = search needs
