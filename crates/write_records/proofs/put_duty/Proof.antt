@@ -1,61 +1,70 @@
--- `put_duty`: kind 2 and its two fields, byte by byte as the definition has them.
+-- `put_duty`: the kind, then its two fields, each behind the last.
 -- Assumes nothing.
+use mathlib.Core.List.{[], _++_}
+use native.Mathlib.Nat.{le-refl}
+use native.Mathlib.Omega.{arith}
 use borrow.Author.Needs.{needs}
 use Rattle.laws.specs.Digits.{digits}
+use Rattle.laws.proofs.Writing.{begun, more, done}
 use Rattle.paper.specs.Bytes.{dutyBytes}
 use Rattle.write_records.proofs.put_duty.Statement.{statement}
 use Rattle.write_records.proofs.put_duty.Tie as tie
 
-cast-t13 : tie.Need-cast-t13
-cast-t13 c = search needs
+put-field-requires : tie.Need-put-field-requires
+put-field-requires c κs = search needs
 
-cast-t15 : tie.Need-cast-t15
-cast-t15 c = search needs
+sub-put-field : tie.Need-sub-put-field
+sub-put-field c = omega arith
 
-cast-t17 : tie.Need-cast-t17
-cast-t17 c = search needs
+part-put-field-start : tie.Need-part-put-field-start
+part-put-field-start c = sub-put-field c
 
-cast-t19 : tie.Need-cast-t19
-cast-t19 c = search needs
+part-put-field-end : tie.Need-part-put-field-end
+part-put-field-end c = le-refl _
 
-cast-t21 : tie.Need-cast-t21
-cast-t21 c = search needs
+put-field-requires-2 : tie.Need-put-field-requires-2
+put-field-requires-2 c κs = search needs
 
-cast-t23 : tie.Need-cast-t23
-cast-t23 c = search needs
+sub-put-field-2 : tie.Need-sub-put-field-2
+sub-put-field-2 c = omega arith
 
-cast-t25 : tie.Need-cast-t25
-cast-t25 c = search needs
+part-put-field-start-2 : tie.Need-part-put-field-start-2
+part-put-field-start-2 c = sub-put-field-2 c
 
-cast-t27 : tie.Need-cast-t27
-cast-t27 c = search needs
+part-put-field-end-2 : tie.Need-part-put-field-end-2
+part-put-field-end-2 c = le-refl _
 
-slice-aggregate-put-bytes : tie.Need-slice-aggregate-put-bytes
-slice-aggregate-put-bytes c = search needs
-
-put-bytes-requires : tie.Need-put-bytes-requires
-put-bytes-requires c κs = search needs
+put-field-requires-3 : tie.Need-put-field-requires-3
+put-field-requires-3 c κs = search needs
 
 same-length : tie.Need-same-length
 same-length c = search needs
 
 returns : tie.Need-returns
 unfolding dutyBytes digits
-returns c = c .before .before .put-bytes .ensures
+returns c =
+    let args = c .before .before .before .before .before .before .before .before .before .before .before .before .before .args in
+    let service = digits 4 (args .x .service) in
+    let period = digits 4 (args .x .period) in
+    done _ _ _ _
+    (more _ _ [] _ period _ 5
+    (more _ _ period _ service _ 1
+    (begun _ (service ++ period) (digits 1 2) _ (c .before .before .before .before .before .before .before .before .before .before .put-field .ensures))
+    (c .before .before .before .before .before .before .put-field2 .ensures))
+    (c .before .before .put-field3 .ensures))
 
 pub put-duty-spec : {M : Type 1} → statement M
 put-duty-spec =
     tie.close
     (tie.spec
-    cast-t13
-    cast-t15
-    cast-t17
-    cast-t19
-    cast-t21
-    cast-t23
-    cast-t25
-    cast-t27
-    slice-aggregate-put-bytes
-    put-bytes-requires
+    put-field-requires
+    sub-put-field
+    part-put-field-start
+    part-put-field-end
+    put-field-requires-2
+    sub-put-field-2
+    part-put-field-start-2
+    part-put-field-end-2
+    put-field-requires-3
     same-length
     returns)

@@ -1,69 +1,108 @@
--- `put_run`: kind 3 and its four fields, byte by byte as the definition has them.
+-- `put_run`: the kind, then its four fields, each behind the last.
 -- Assumes nothing.
+use mathlib.Core.List.{[], _++_}
+use native.Mathlib.Nat.{le-refl}
+use native.Mathlib.Omega.{arith}
 use borrow.Author.Needs.{needs}
 use Rattle.laws.specs.Digits.{digits}
+use Rattle.laws.proofs.Writing.{begun, more, done}
 use Rattle.paper.specs.Bytes.{runBytes}
 use Rattle.write_records.proofs.put_run.Statement.{statement}
 use Rattle.write_records.proofs.put_run.Tie as tie
 
-cast-t15 : tie.Need-cast-t15
-cast-t15 c = search needs
+put-field-requires : tie.Need-put-field-requires
+put-field-requires c κs = search needs
 
-cast-t17 : tie.Need-cast-t17
-cast-t17 c = search needs
+sub-put-field : tie.Need-sub-put-field
+sub-put-field c = omega arith
 
-cast-t19 : tie.Need-cast-t19
-cast-t19 c = search needs
+part-put-field-start : tie.Need-part-put-field-start
+part-put-field-start c = sub-put-field c
 
-cast-t21 : tie.Need-cast-t21
-cast-t21 c = search needs
+part-put-field-end : tie.Need-part-put-field-end
+part-put-field-end c = le-refl _
 
-cast-t23 : tie.Need-cast-t23
-cast-t23 c = search needs
+put-field-requires-2 : tie.Need-put-field-requires-2
+put-field-requires-2 c κs = search needs
 
-cast-t25 : tie.Need-cast-t25
-cast-t25 c = search needs
+sub-put-field-2 : tie.Need-sub-put-field-2
+sub-put-field-2 c = omega arith
 
-cast-t27 : tie.Need-cast-t27
-cast-t27 c = search needs
+part-put-field-start-2 : tie.Need-part-put-field-start-2
+part-put-field-start-2 c = sub-put-field-2 c
 
-cast-t29 : tie.Need-cast-t29
-cast-t29 c = search needs
+part-put-field-end-2 : tie.Need-part-put-field-end-2
+part-put-field-end-2 c = le-refl _
 
-cast-t31 : tie.Need-cast-t31
-cast-t31 c = search needs
+put-field-requires-3 : tie.Need-put-field-requires-3
+put-field-requires-3 c κs = search needs
 
-cast-t33 : tie.Need-cast-t33
-cast-t33 c = search needs
+sub-put-field-3 : tie.Need-sub-put-field-3
+sub-put-field-3 c = omega arith
 
-slice-aggregate-put-bytes : tie.Need-slice-aggregate-put-bytes
-slice-aggregate-put-bytes c = search needs
+part-put-field-start-3 : tie.Need-part-put-field-start-3
+part-put-field-start-3 c = sub-put-field-3 c
 
-put-bytes-requires : tie.Need-put-bytes-requires
-put-bytes-requires c κs = search needs
+part-put-field-end-3 : tie.Need-part-put-field-end-3
+part-put-field-end-3 c = le-refl _
+
+put-field-requires-4 : tie.Need-put-field-requires-4
+put-field-requires-4 c κs = search needs
+
+sub-put-field-4 : tie.Need-sub-put-field-4
+sub-put-field-4 c = omega arith
+
+part-put-field-start-4 : tie.Need-part-put-field-start-4
+part-put-field-start-4 c = sub-put-field-4 c
+
+part-put-field-end-4 : tie.Need-part-put-field-end-4
+part-put-field-end-4 c = le-refl _
+
+put-field-requires-5 : tie.Need-put-field-requires-5
+put-field-requires-5 c κs = search needs
 
 same-length : tie.Need-same-length
 same-length c = search needs
 
 returns : tie.Need-returns
 unfolding runBytes digits
-returns c = c .before .before .put-bytes .ensures
+returns c =
+    let args = c .before .before .before .before .before .before .before .before .before .before .before .before .before .before .before .before .before .before .before .before .before .args in
+    let row = digits 1 (args .x .row .0) in
+    let duty = digits 1 (args .x .duty) in
+    let first = digits 4 (args .x .first) in
+    let length = digits 4 (args .x .length) in
+    done _ _ _ _
+    (more _ _ [] _ length _ 7
+    (more _ _ length _ first _ 3
+    (more _ _ (first ++ length) _ duty _ 2
+    (more _ _ (duty ++ first ++ length) _ row _ 1
+    (begun _ (row ++ duty ++ first ++ length) (digits 1 3) _ (c .before .before .before .before .before .before .before .before .before .before .before .before .before .before .before .before .before .before .put-field .ensures))
+    (c .before .before .before .before .before .before .before .before .before .before .before .before .before .before .put-field2 .ensures))
+    (c .before .before .before .before .before .before .before .before .before .before .put-field3 .ensures))
+    (c .before .before .before .before .before .before .put-field4 .ensures))
+    (c .before .before .put-field5 .ensures))
 
 pub put-run-spec : {M : Type 1} → statement M
 put-run-spec =
     tie.close
     (tie.spec
-    cast-t15
-    cast-t17
-    cast-t19
-    cast-t21
-    cast-t23
-    cast-t25
-    cast-t27
-    cast-t29
-    cast-t31
-    cast-t33
-    slice-aggregate-put-bytes
-    put-bytes-requires
+    put-field-requires
+    sub-put-field
+    part-put-field-start
+    part-put-field-end
+    put-field-requires-2
+    sub-put-field-2
+    part-put-field-start-2
+    part-put-field-end-2
+    put-field-requires-3
+    sub-put-field-3
+    part-put-field-start-3
+    part-put-field-end-3
+    put-field-requires-4
+    sub-put-field-4
+    part-put-field-start-4
+    part-put-field-end-4
+    put-field-requires-5
     same-length
     returns)
