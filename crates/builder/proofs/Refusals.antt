@@ -17,14 +17,14 @@ use Rattle.paper.specs.Bytes.{mostTicks, within}
 use Rattle.paper.specs.Builder.{dutiesOf, badRange, rangeFault, planAt, planDuties, plan, build}
 use Rattle.laws.proofs.Decides.{none-found}
 use Rattle.paper.proofs.Passed.{Ranges, within-told, duty-decides}
-use Rattle.theorems.proofs.Accepted.{block-divides}
-use Rattle.theorems.proofs.Sa1Table.{ticks-within}
-use Rattle.duties.specs.Ready.{Paired, Ready}
-use Rattle.theorems.proofs.Planned.{block-least, length-duties}
-use Rattle.duties.proofs.Duties.{duty-is, block-length-is}
-use Rattle.build_at.specs.declared.Built.{Built}
-use Rattle.build_at.specs.Built.{builtAs, written, buildAt}
-use Rattle.build_at.proofs.Sized.{Does, does}
+use Rattle.table_laws.proofs.Accepted.{block-divides}
+use Rattle.plan_laws.proofs.Sa1Table.{ticks-within}
+use Rattle.duty_lists.specs.Ready.{Paired, Ready}
+use Rattle.plan_laws.proofs.Planned.{block-least, length-duties}
+use Rattle.duty_lists.proofs.Duties.{duty-is, block-length-is}
+use Rattle.build_fitting.specs.declared.Built.{Built}
+use Rattle.build_fitting.specs.Built.{builtAs, written, buildAt}
+use Rattle.build_fitting.proofs.Sized.{Does, does}
 
 -- ---- 1 to 5
 

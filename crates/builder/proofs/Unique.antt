@@ -6,10 +6,10 @@ use mathlib.Core.Path.{_≡_, sym, _∙_}
 use mathlib.Core.List.{List}
 use native.Mathlib.Omega.{arith}
 use Rattle.paper.specs.Outcome.{Outcome}
-use Rattle.build_at.specs.declared.Built.{Built}
-use Rattle.build_at.specs.declared.Built.the-variants.{Length, Refused}
-use Rattle.build_at.specs.Built.{builtAs}
-use Rattle.build_at.proofs.Sized.{Does}
+use Rattle.build_fitting.specs.declared.Built.{Built}
+use Rattle.build_fitting.specs.declared.Built.the-variants.{Length, Refused}
+use Rattle.build_fitting.specs.Built.{builtAs}
+use Rattle.build_fitting.proofs.Sized.{Does}
 
 -- no two answers stand for one outcome
 pub builtAs-injective : (r q : Built) → builtAs r ≡ builtAs q → r ≡ q

@@ -6,11 +6,11 @@ ghost use Rattle.laws.specs.Choice.{pick};
 ghost use Rattle.paper.specs.Outcome.{refused, lengthOf, leaves};
 ghost use Rattle.paper.specs.Bytes.{mostTicks, within};
 ghost use Rattle.paper.specs.Builder.{build as buildFrom};
-ghost use Rattle.build_at.specs.Built.{builtAs};
-use build_at::Built;
-use build_at::build_at;
-use duties::bad_range;
-use numbers::gcd_of_all;
+ghost use Rattle.build_fitting.specs.Built.{builtAs};
+use build_fitting::Built;
+use build_fitting::build_at;
+use duty_lists::bad_range;
+use slices::gcd_of_all;
 
 // Whether a number is from low to high.
 fn between(v: usize, low: usize, high: usize) -> bool

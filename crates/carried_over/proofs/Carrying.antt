@@ -18,13 +18,13 @@ use Rattle.paper.specs.Bytes.{small}
 use Rattle.paper.specs.Statements.{Meets}
 use Rattle.paper.proofs.Links.{closed}
 use Rattle.paper.proofs.Loads.{carries, carried, later}
-use Rattle.theorems.proofs.Starts.{laid, later-runs}
-use Rattle.formed.specs.Formed.{Formed, tableOf}
-use Rattle.formed.proofs.Table.{table-engines, table-runs, table-ranged}
-use Rattle.tally.specs.Tally.{startsOf, endsOf}
-use Rattle.links.specs.Links.{sameCode, linkOf}
-use Rattle.links.proofs.Linking.{link-at}
-use Rattle.tally.proofs.Linked.{Narrow, same-code, edge-tells, link-code, formed-narrow}
+use Rattle.walk_laws.proofs.Starts.{laid, later-runs}
+use Rattle.record_read.specs.Formed.{Formed, tableOf}
+use Rattle.record_read.proofs.Table.{table-engines, table-runs, table-ranged}
+use Rattle.table_tally.specs.Tally.{startsOf, endsOf}
+use Rattle.row_edges.specs.Links.{sameCode, linkOf}
+use Rattle.row_edges.proofs.Linking.{link-at}
+use Rattle.table_tally.proofs.Linked.{Narrow, same-code, edge-tells, link-code, formed-narrow}
 use Rattle.carried_over.specs.Carried.{carriesOf, carriedOf}
 
 -- what is carried, by the branch that code takes: always where linked, else where the chain's first row goes on

@@ -6,7 +6,7 @@ use lib.ListN.{getD}
 use Rattle.laws.specs.Choice.{one-if}
 use Rattle.laws.specs.Sum.{sumTo}
 use Rattle.paper.specs.Rotation.{nextOf}
-use Rattle.links.specs.Links.{sameCode, linkOf}
+use Rattle.row_edges.specs.Links.{sameCode, linkOf}
 
 -- the duty at the end of row r goes on at unit 0 of the next row of r's engine
 unfoldable pub carriesOf : List ℕ → List ℕ → ℕ → Bool

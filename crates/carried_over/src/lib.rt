@@ -2,10 +2,10 @@
 ghost use mathlib.Core.Path.{_≡_};
 ghost use Prim.Native.Nat.{_≤_, _<_};
 ghost use Rattle.carried_over.specs.Carried.{carriesOf, carriedOf};
-use links::linked;
-use links::same_duty;
 use paper::Row;
 use rotation::chain_first;
+use row_edges::linked;
+use row_edges::same_duty;
 
 // Whether the duty at the end of a row goes on at the start of the next row of the row's engine.
 fn carries(starts: &[u32; 33], ends: &[u32; 33], row: Row) -> bool

@@ -16,17 +16,17 @@ use Rattle.paper.specs.declared.Judged.the-variants.{Accepted}
 use Rattle.paper.specs.Outcome.{Outcome, refused, answer, andThen}
 use Rattle.paper.specs.Rules.{accepted}
 use Rattle.paper.specs.Answers.{State, rowsAt, ofEngine, ofState, stateAt}
-use Rattle.formed.specs.Formed.{Formed, tableOf}
-use Rattle.formed.proofs.Table.{table-engines}
+use Rattle.record_read.specs.Formed.{Formed, tableOf}
+use Rattle.record_read.proofs.Table.{table-engines}
 use Rattle.judge.specs.declared.Ruling.{Ruling}
 use Rattle.judge.specs.Ruled.{Ruled}
 use Rattle.judge.proofs.Accepted.{accepted-as}
 use Rattle.judge.proofs.Asked.{asked-accepted}
-use Rattle.links.specs.Links.{linkOf}
-use Rattle.tally.proofs.Linked.{link-read}
-use Rattle.block_rows.specs.RowsBy.{rowsBy}
-use Rattle.block_rows.specs.declared.Step.{Step}
-use Rattle.block_rows.specs.ByState.{stepAs, stepBy, rowBy}
+use Rattle.row_edges.specs.Links.{linkOf}
+use Rattle.table_tally.proofs.Linked.{link-read}
+use Rattle.dispatch_state.specs.RowsBy.{rowsBy}
+use Rattle.dispatch_state.specs.declared.Step.{Step}
+use Rattle.dispatch_state.specs.ByState.{stepAs, stepBy, rowBy}
 use Rattle.dispatcher.specs.Told.{stateBy, nextBy}
 
 -- the next state, by what the state was told of the next block

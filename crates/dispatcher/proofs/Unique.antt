@@ -3,9 +3,9 @@
 -- Assumes nothing.
 use mathlib.Core.Path.{_≡_, refl, sym, ap, _∙_}
 use Rattle.paper.specs.Answers.{State}
-use Rattle.block_rows.specs.declared.RowTold.{RowTold}
-use Rattle.block_rows.specs.declared.RowTold.the-variants.{At, Refused as NoRow}
-use Rattle.block_rows.specs.ByState.{rowAs}
+use Rattle.dispatch_state.specs.declared.RowTold.{RowTold}
+use Rattle.dispatch_state.specs.declared.RowTold.the-variants.{At, Refused as NoRow}
+use Rattle.dispatch_state.specs.ByState.{rowAs}
 use Rattle.dispatcher.specs.declared.Dispatcher.{Dispatcher}
 use Rattle.dispatcher.specs.declared.Dispatched.{Dispatched}
 use Rattle.dispatcher.specs.declared.Verdict.{Verdict}

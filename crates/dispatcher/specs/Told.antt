@@ -5,8 +5,8 @@ use mathlib.Core.Bool.{Bool}
 use Rattle.laws.specs.Lists.{tab}
 use Rattle.paper.specs.Outcome.{Outcome, refused, answer, andThen}
 use Rattle.paper.specs.Answers.{State}
-use Rattle.block_rows.specs.RowsBy.{rowsBy}
-use Rattle.block_rows.specs.ByState.{stepBy}
+use Rattle.dispatch_state.specs.RowsBy.{rowsBy}
+use Rattle.dispatch_state.specs.ByState.{stepBy}
 use Rattle.dispatcher.specs.declared.Dispatcher.{Dispatcher}
 use Rattle.dispatcher.specs.declared.Dispatched.{Dispatched}
 use Rattle.dispatcher.specs.declared.Verdict.{Verdict}

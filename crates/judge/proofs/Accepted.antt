@@ -12,9 +12,9 @@ use Rattle.paper.specs.Outcome.{refused, answer, andThen, faultNumber, faultPla
 use Rattle.paper.specs.Bytes.{small, parse}
 use Rattle.paper.specs.Rules.{judgeTable, accepted, readingOf, judged}
 use Rattle.paper.proofs.Outcomes.{answer-one, then-refused, then-answer}
-use Rattle.theorems.proofs.Accepted.{accepted-read}
-use Rattle.formed.specs.Formed.{Formed, tableOf}
-use Rattle.form.proofs.Formed.{formed}
+use Rattle.table_laws.proofs.Accepted.{accepted-read}
+use Rattle.record_read.specs.Formed.{Formed, tableOf}
+use Rattle.table_form.proofs.Formed.{formed}
 use Rattle.judge.specs.AcceptedAs.{AcceptedAs}
 
 -- fault 10 is the judge's

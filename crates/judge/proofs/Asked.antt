@@ -13,9 +13,9 @@ use Rattle.paper.specs.Bytes.{small}
 use Rattle.paper.specs.Statements.{Ranged}
 use Rattle.paper.specs.Outcome.{Outcome, refused, andThen, faultNumber, faultPlace, judgedAs}
 use Rattle.paper.specs.Rules.{accepted, judged}
-use Rattle.theorems.proofs.Accepted.{accepted-iff, ranged-long}
-use Rattle.formed.specs.Formed.{tableOf}
-use Rattle.formed.proofs.Table.{table-ranged}
+use Rattle.table_laws.proofs.Accepted.{accepted-iff, ranged-long}
+use Rattle.record_read.specs.Formed.{tableOf}
+use Rattle.record_read.proofs.Table.{table-ranged}
 use Rattle.judge.specs.AcceptedAs.{AcceptedAs}
 use Rattle.judge.proofs.Accepted.{accepted-as, accepted-table, refused-as}
 use Rattle.judge.specs.Ready.{Ready}

@@ -5,7 +5,7 @@ use mathlib.Core.List.{List}
 use Rattle.paper.specs.declared.Reading.{Reading}
 use Rattle.paper.specs.Outcome.{answer}
 use Rattle.paper.specs.Rules.{judgeTable}
-use Rattle.formed.specs.Formed.{Formed, tableOf}
+use Rattle.record_read.specs.Formed.{Formed, tableOf}
 
 pub record AcceptedAs (b : List ℕ) (rd : Reading) : Type 0 where
   pub formed : Formed b rd

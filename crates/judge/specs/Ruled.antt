@@ -5,8 +5,8 @@ use mathlib.Core.List.{List}
 use Rattle.paper.specs.declared.Reading.{Reading}
 use Rattle.paper.specs.Outcome.{judgedAs}
 use Rattle.paper.specs.Rules.{judged}
-use Rattle.formed.specs.Formed.{Formed, tableOf}
-use Rattle.tally.specs.Tally.{startsOf, endsOf}
+use Rattle.record_read.specs.Formed.{Formed, tableOf}
+use Rattle.table_tally.specs.Tally.{startsOf, endsOf}
 use Rattle.judge.specs.declared.Ruling.{Ruling}
 
 -- the judge's answer is that of the definition; where the bytes are in good form, the edges are those of the table in them

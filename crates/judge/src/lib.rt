@@ -2,18 +2,18 @@
 ghost use mathlib.Core.Path.{_≡_};
 ghost use Rattle.paper.specs.Outcome.{refused, answer, andThen, judgedAs, faultNumber, faultPlace};
 ghost use Rattle.paper.specs.Rules.{judged, judgeTable, readingOf};
-ghost use Rattle.formed.specs.Formed.{Formed, tableOf};
-ghost use Rattle.tally.specs.Tally.{unitsIn};
+ghost use Rattle.record_read.specs.Formed.{Formed, tableOf};
+ghost use Rattle.table_tally.specs.Tally.{unitsIn};
 ghost use Rattle.judge.specs.Ruled.{Ruled};
-use duty_rules::bad_slice;
-use duty_rules::block_length_of;
-use form::Form;
-use form::form_of;
+use judge_duties::bad_slice;
+use judge_duties::block_length_of;
+use judge_runs::judge_runs;
 use paper::Fault;
 use paper::Judged;
 use paper::Reading;
-use rules::judge_runs;
-use tally::tally_of;
+use table_form::Form;
+use table_form::form_of;
+use table_tally::tally_of;
 
 // What judging leaves to those who ask on: the judge's answer, and what holds the first and the last unit of each row of a
 // table in good form.

@@ -12,9 +12,9 @@ use Rattle.paper.specs.Schedule.{loads}
 use Rattle.paper.specs.Bytes.{small}
 use Rattle.paper.specs.Answers.{mostBlocks}
 use Rattle.paper.proofs.Loads.{carried}
-use Rattle.theorems.proofs.Starts.{loads-met}
-use Rattle.formed.specs.Formed.{tableOf}
-use Rattle.formed.proofs.Table.{table-runs}
+use Rattle.walk_laws.proofs.Starts.{loads-met}
+use Rattle.record_read.specs.Formed.{tableOf}
+use Rattle.record_read.proofs.Table.{table-runs}
 use Rattle.judge.specs.declared.Ruling.{Ruling}
 use Rattle.judge.specs.Ruled.{Ruled}
 use Rattle.judge.specs.Ready.{Ready}

@@ -13,12 +13,12 @@ use Rattle.paper.specs.Builder.{plan, fitted, build}
 use Rattle.paper.specs.Rules.{accepted}
 use Rattle.paper.specs.Text.{printLine, refusedWord, printed}
 use Rattle.paper.proofs.Outcomes.{answer-one, then-refused, then-answer}
-use Rattle.theorems.proofs.Bytes.{length-encode}
-use Rattle.theorems.proofs.Planned.{planned-ranged, planned-accepted}
-use Rattle.build_at.specs.declared.Built.{Built}
-use Rattle.build_at.specs.declared.Built.the-variants.{Length, Refused}
-use Rattle.build_at.specs.Built.{builtAs}
-use Rattle.print_numbers.specs.Puts.{Puts}
+use Rattle.table_laws.proofs.Bytes.{length-encode}
+use Rattle.plan_laws.proofs.Planned.{planned-ranged, planned-accepted}
+use Rattle.build_fitting.specs.declared.Built.{Built}
+use Rattle.build_fitting.specs.declared.Built.the-variants.{Length, Refused}
+use Rattle.build_fitting.specs.Built.{builtAs}
+use Rattle.number_print.specs.Puts.{Puts}
 use Rattle.plan_text.proofs.Fitting.{fitted-room, front-is}
 
 -- what is printed by another name

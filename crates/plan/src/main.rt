@@ -4,20 +4,20 @@ ghost use lib.ListN.{length, take};
 ghost use Rattle.paper.specs.Builder.{plan};
 ghost use Rattle.paper.specs.Rules.{accepted};
 ghost use Rattle.paper.specs.Text.{printed, program};
-ghost use Rattle.print_numbers.specs.Puts.{Puts};
+ghost use Rattle.number_print.specs.Puts.{Puts};
 ghost use Rattle.plan.specs.Sized.{Sized};
-use build_at::Built;
+use build_fitting::Built;
 use builder::build;
 use judge::number_of;
 use judge::place_of;
 use judge::rule_on;
+use line_print::put_refused;
+use line_print::put_text_fault;
 use paper::Judged;
 use plan_input::Input;
 use plan_input::Verdict;
 use plan_input::read_input;
 use plan_text::put_text;
-use print_lines::put_refused;
-use print_lines::put_text_fault;
 
 // The plan in table bytes, or their refusal.
 fn put_plan(out: &mut [u8], table: &[u8]) -> usize

@@ -17,7 +17,7 @@ use Rattle.paper.specs.declared.Duty.{Duty}
 use Rattle.paper.specs.Words.{duty, dutyAt}
 use Rattle.paper.specs.Outcome.{Outcome, refused, answer, andThen}
 use Rattle.paper.specs.Text.{linesOf, dutyRead, dutiesFrom}
-use Rattle.input_lines.specs.Line.{lineGood}
+use Rattle.line_read.specs.Line.{lineGood}
 use Rattle.plan_input.specs.declared.Verdict.the-variants.{Read}
 use Rattle.plan_input.specs.Taken.{servicesIn, periodsIn, faultAt, asTaken, withEngines}
 use Rattle.plan_input.proofs.Lines.{feedIn, good-parts, duties-line}

@@ -3,11 +3,11 @@
 ghost use mathlib.Core.Path.{_≡_};
 ghost use Rattle.paper.specs.Text.{linesOf, dutiesFrom, input};
 ghost use Rattle.plan_input.specs.Taken.{faultAt, asTaken, withEngines};
-use input_lines::duty_read;
-use input_lines::engines_read;
-use input_lines::find;
-use input_lines::first_line_good;
-use input_lines::line_good;
+use line_read::duty_read;
+use line_read::engines_read;
+use line_read::find;
+use line_read::first_line_good;
+use line_read::line_good;
 
 // What was read: the engines, how many duties, and the service and the period of each; past the last duty they are 0.
 pub struct Input {

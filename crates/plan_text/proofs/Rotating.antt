@@ -13,17 +13,17 @@ use Rattle.paper.specs.Schedule.{loads}
 use Rattle.paper.specs.Text.{planLine, chainLine, loadsLine, planText}
 use Rattle.paper.proofs.Links.{closed, rows-end}
 use Rattle.paper.proofs.Loads.{later-is}
-use Rattle.theorems.proofs.Starts.{laid, loads-runs}
-use Rattle.formed.specs.Formed.{tableOf}
-use Rattle.formed.proofs.Table.{table-engines, table-runs}
-use Rattle.tally.specs.Tally.{startsOf, endsOf}
+use Rattle.walk_laws.proofs.Starts.{laid, loads-runs}
+use Rattle.record_read.specs.Formed.{tableOf}
+use Rattle.record_read.proofs.Table.{table-engines, table-runs}
+use Rattle.table_tally.specs.Tally.{startsOf, endsOf}
 use Rattle.judge.specs.Ready.{Ready}
-use Rattle.links.specs.Links.{linkOf}
+use Rattle.row_edges.specs.Links.{linkOf}
 use Rattle.carried_over.specs.Carried.{carriedOf}
-use Rattle.tally.proofs.Linked.{link-read}
+use Rattle.table_tally.proofs.Linked.{link-read}
 use Rattle.carried_over.proofs.Carrying.{later-read}
 use Rattle.table_lines.specs.Parts.{dutyLines, runLines, tableLines}
-use Rattle.rotation_lines.specs.Parts.{chainLinesBy, loadsLineBy, rotationLinesBy}
+use Rattle.chain_lines.specs.Parts.{chainLinesBy, loadsLineBy, rotationLinesBy}
 
 module _ (b : List ℕ) (rd : Reading) (R : Ready b rd) {starts ends : List ℕ} (p : starts ≡ startsOf (tableOf b rd)) (q : ends ≡ endsOf (tableOf b rd)) where
   -- past the last row a chain would begin

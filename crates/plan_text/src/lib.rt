@@ -5,19 +5,19 @@ ghost use lib.ListN.{length};
 ghost use Rattle.paper.specs.Text.{planText, textFor};
 ghost use Rattle.paper.specs.Outcome.{lengthOf, leaves};
 ghost use Rattle.paper.specs.Builder.{fitted};
-ghost use Rattle.formed.specs.Formed.{tableOf};
-ghost use Rattle.tally.specs.Tally.{startsOf, endsOf};
+ghost use Rattle.record_read.specs.Formed.{tableOf};
+ghost use Rattle.table_tally.specs.Tally.{startsOf, endsOf};
 ghost use Rattle.judge.specs.Ready.{Ready};
-ghost use Rattle.print_numbers.specs.Puts.{Puts};
+ghost use Rattle.number_print.specs.Puts.{Puts};
 ghost use Rattle.plan_text.specs.Told.{textAs};
+use chain_lines::put_rotation;
 use judge::number_of;
 use judge::place_of;
 use judge::rule_on;
 use paper::Judged;
 use paper::Reading;
-use rotation_lines::put_rotation;
+use record_write::put_bytes;
 use table_lines::put_table;
-use write_records::put_bytes;
 
 // The text of a plan whose bytes are in good form and meet the rules, by what holds the first and the last unit of each row.
 pub fn put_text(

@@ -15,11 +15,11 @@ use Rattle.paper.specs.Rotation.{link, rowAt}
 use Rattle.paper.specs.Schedule.{walk}
 use Rattle.paper.specs.Outcome.{Outcome, refused, answer}
 use Rattle.paper.specs.Answers.{Reply}
-use Rattle.formed.specs.Formed.{Formed, tableOf}
-use Rattle.formed.proofs.Table.{table-ticks, table-engines}
-use Rattle.tally.specs.Tally.{startsOf, endsOf}
-use Rattle.links.specs.Links.{linkOf}
-use Rattle.tally.proofs.Linked.{link-read}
+use Rattle.record_read.specs.Formed.{Formed, tableOf}
+use Rattle.record_read.proofs.Table.{table-ticks, table-engines}
+use Rattle.table_tally.specs.Tally.{startsOf, endsOf}
+use Rattle.row_edges.specs.Links.{linkOf}
+use Rattle.table_tally.proofs.Linked.{link-read}
 use Rattle.question.specs.Told.{replyOf}
 
 -- 18: an engine is one of the table's exactly where it is one of the reading's

@@ -2,10 +2,9 @@
 // for the run that holds the unit is all that looks at the runs, whatever the tick.
 ghost use mathlib.Core.Path.{_≡_};
 ghost use Rattle.paper.specs.Answers.{question};
-ghost use Rattle.formed.specs.Formed.{Formed, tableOf};
-ghost use Rattle.tally.specs.Tally.{startsOf, endsOf};
+ghost use Rattle.record_read.specs.Formed.{Formed, tableOf};
+ghost use Rattle.table_tally.specs.Tally.{startsOf, endsOf};
 ghost use Rattle.question.specs.Told.{answerAs, replyOf};
-use holders::held;
 use judge::number_of;
 use judge::place_of;
 use judge::rule_on;
@@ -15,6 +14,7 @@ use paper::Judged;
 use paper::Reading;
 use paper::Row;
 use rotation::row_in;
+use unit_holder::held;
 
 // The duty and the row, or idle with the row; else the refusal's number and place.
 pub enum Answer {

@@ -3,11 +3,11 @@
 ghost use mathlib.Core.Path.{_≡_};
 ghost use Prim.Native.Nat.{_≤_};
 ghost use Rattle.paper.specs.Rotation.{firstOf, rowAt};
-ghost use Rattle.links.specs.Links.{linkOf};
+ghost use Rattle.row_edges.specs.Links.{linkOf};
 ghost use Rattle.rotation.specs.Chains.{IsLast, round};
-use links::linked;
 use paper::Engine;
 use paper::Row;
+use row_edges::linked;
 
 // The first row of a row's chain: down along the links.
 pub fn chain_first(starts: &[u32; 33], ends: &[u32; 33], row: Row) -> Row

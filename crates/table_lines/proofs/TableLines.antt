@@ -15,9 +15,9 @@ use Rattle.paper.specs.declared.Reading.{Reading}
 use Rattle.paper.specs.Words.{Table, run, dutyAt, runAt}
 use Rattle.paper.specs.Statements.{DutyRanged, RunRanged}
 use Rattle.paper.specs.Text.{printLine, planWord, dutyWord, runWord, planLine, dutyLine, runLine}
-use Rattle.formed.specs.Formed.{Formed, tableOf}
-use Rattle.formed.proofs.Table.{table-ticks, table-engines, table-duties, table-runs, table-ranged}
-use Rattle.print_lines.proofs.Line.{line-most}
+use Rattle.record_read.specs.Formed.{Formed, tableOf}
+use Rattle.record_read.proofs.Table.{table-ticks, table-engines, table-duties, table-runs, table-ranged}
+use Rattle.line_print.proofs.Line.{line-most}
 use Rattle.table_lines.specs.Parts.{dutyLines, runLines}
 
 -- ---- how long the parts are

@@ -4,15 +4,15 @@ ghost use Prim.Native.Nat.{_≤_, _<_};
 ghost use lib.ListN.{length};
 ghost use Rattle.paper.specs.Bytes.{mostTicks};
 ghost use Rattle.paper.specs.Text.{printLine, planWord, dutyWord, runLine, chainWord, loadsWord};
-ghost use Rattle.formed.specs.Formed.{Formed, tableOf};
-ghost use Rattle.print_numbers.specs.Puts.{Puts};
+ghost use Rattle.record_read.specs.Formed.{Formed, tableOf};
+ghost use Rattle.number_print.specs.Puts.{Puts};
 ghost use Rattle.table_lines.specs.Parts.{dutyLines, runLines, tableLines};
-use formed::duty_of;
-use formed::run_of;
+use line_print::put_line;
 use paper::Duty;
 use paper::Reading;
 use paper::Run;
-use print_lines::put_line;
+use record_read::duty_of;
+use record_read::run_of;
 
 // The plan: block length, engines, duties.
 fn put_head(out: &mut [u8], rd: Reading) -> usize

@@ -8,13 +8,13 @@ use borrow.Author.Tests.{lt-ltb, le-ltb}
 use Rattle.laws.specs.Lists.{over}
 use Rattle.paper.specs.Outcome.{Outcome, refused, answer, lengthOf, leaves}
 use Rattle.paper.specs.Builder.{build}
-use Rattle.theorems.proofs.Listed.{build-listed}
+use Rattle.plan_laws.proofs.Listed.{build-listed}
 use Rattle.paper.proofs.Outcomes.{answered, answer-one, then-refused}
-use Rattle.build_at.specs.declared.Built.{Built}
-use Rattle.build_at.specs.declared.Built.the-variants.{Length, Refused}
-use Rattle.build_at.specs.Built.{builtAs}
+use Rattle.build_fitting.specs.declared.Built.{Built}
+use Rattle.build_fitting.specs.declared.Built.the-variants.{Length, Refused}
+use Rattle.build_fitting.specs.Built.{builtAs}
 use Rattle.tickplume.specs.Face.{Told, buildCall, buildEntries}
-use Rattle.entries.proofs.Stored.{stored-one}
+use Rattle.face_entries.proofs.Stored.{stored-one}
 
 -- what an outcome of the builder leaves: the word and the answer, and the table
 abbrev pub Left : Outcome (List ℕ) → ℕ → List ℕ → List ℕ → List ℕ → List ℕ → Type 0

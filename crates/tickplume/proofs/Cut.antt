@@ -20,11 +20,11 @@ use Rattle.paper.specs.Outcome.{Outcome, refused, answer, andThen}
 use Rattle.paper.specs.Rules.{accepted}
 use Rattle.paper.specs.Statements.{Ranged}
 use Rattle.paper.specs.Answers.{State, rowsAt, rowTold, advanced}
-use Rattle.theorems.proofs.AcceptedBytes.{accepted-ranged}
+use Rattle.table_laws.proofs.AcceptedBytes.{accepted-ranged}
 use Rattle.paper.proofs.Links.{closed, rows-end}
 use Rattle.paper.proofs.Rotation.{row-below}
 use Rattle.dispatcher.specs.Told.{Handed, handed}
-use Rattle.state_entries.specs.StateEntries.{stateIn}
+use Rattle.face_entries.specs.StateEntries.{stateIn}
 use Rattle.tickplume.proofs.Narrowed.{most, cut-same}
 
 -- the state with its entries cut

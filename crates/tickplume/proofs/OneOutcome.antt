@@ -11,7 +11,7 @@ use lib.ListN.{length}
 use Rattle.laws.proofs.Cases.{by-cases}
 use Rattle.paper.specs.Outcome.{Outcome, refused, answer, leaves}
 use Rattle.paper.proofs.Outcomes.{answered, refused-one}
-use Rattle.theorems.proofs.Listed.{Listed, judged-listed, build-listed, question-listed, start-listed, row-listed, next-listed, counted-listed}
+use Rattle.plan_laws.proofs.Listed.{Listed, judged-listed, build-listed, question-listed, start-listed, row-listed, next-listed, counted-listed}
 use Rattle.tickplume.specs.Face.{Told, wordOf, entries, needing, buildCall, buildEntries, judgeCall, questionCall, startCall, rowCall, nextCall, countCall}
 
 -- ---- one outcome

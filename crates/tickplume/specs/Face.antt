@@ -10,8 +10,8 @@ use Rattle.paper.specs.Outcome.{Outcome, refused, answer, andThen, leaves}
 use Rattle.paper.specs.Builder.{build}
 use Rattle.paper.specs.Rules.{judged}
 use Rattle.paper.specs.Answers.{question, start, rowTold, advanced, counted}
-use Rattle.entries.specs.Entries.{readingEntries, replyEntries}
-use Rattle.state_entries.specs.StateEntries.{stateEntries, stateIn}
+use Rattle.face_entries.specs.Entries.{readingEntries, replyEntries}
+use Rattle.face_entries.specs.StateEntries.{stateEntries, stateIn}
 
 -- the returned word: 0, or the refusal's number in the low eight bits and its place above them
 abbrev pub wordOf : Outcome (List ℕ) → ℕ

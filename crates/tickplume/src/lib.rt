@@ -4,20 +4,20 @@
 ghost use mathlib.Core.Path.{_≡_};
 ghost use Rattle.paper.specs.Outcome.{leaves};
 ghost use Rattle.tickplume.specs.Face.{Told, buildCall, buildEntries, judgeCall, questionCall, startCall, rowCall, nextCall, countCall};
-use block_rows::RowTold;
-use build_at::Built;
+use build_fitting::Built;
+use dispatch_state::RowTold;
 use dispatcher::Dispatcher;
 use dispatcher::Verdict;
-use entries::put_reading;
-use entries::put_reply;
-use entries::refusal;
+use face_entries::put_reading;
+use face_entries::put_reply;
+use face_entries::put_state;
+use face_entries::refusal;
+use face_entries::rows_in;
 use load_count::Counted;
 use paper::Engine;
 use paper::Held;
 use paper::Judged;
 use question::Answer;
-use state_entries::put_state;
-use state_entries::rows_in;
 
 // SA1's plan of the duties, into the lent table.
 #[no_mangle]

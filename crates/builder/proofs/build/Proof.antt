@@ -7,9 +7,9 @@ use native.Mathlib.Omega.{arith}
 use lib.ListN.{length}
 use Rattle.paper.specs.Bytes.{within}
 use Rattle.paper.specs.Builder.{dutiesOf}
-use Rattle.duties.specs.Ready.{Paired}
-use Rattle.build_at.specs.Built.{buildAt}
-use Rattle.build_at.proofs.Sized.{does, refuses}
+use Rattle.duty_lists.specs.Ready.{Paired}
+use Rattle.build_fitting.specs.Built.{buildAt}
+use Rattle.build_fitting.proofs.Sized.{does, refuses}
 use Rattle.builder.proofs.Refusals.{refusal-1, refusal-2, refusal-3, refusal-4-5, past-5, ready, inside}
 use borrow.Author.Needs.{needs}
 use Rattle.builder.proofs.build.Statement.{statement}

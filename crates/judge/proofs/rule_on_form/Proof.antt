@@ -2,7 +2,7 @@
 -- Assumes nothing.
 use mathlib.Core.Path.{sym, ap, _∙_}
 use borrow.Author.Needs.{needs}
-use Rattle.tally.specs.Tally.{startsOf, endsOf}
+use Rattle.table_tally.specs.Tally.{startsOf, endsOf}
 use Rattle.judge.proofs.Accepted.{rules-decide}
 use Rattle.judge.proofs.OneForm.{table-one}
 use Rattle.judge.proofs.rule_on_form.Statement.{statement}

@@ -3,10 +3,10 @@
 use native.Mathlib.Omega.{arith}
 use borrow.Author.Needs.{needs}
 use Rattle.laws.proofs.Writing.{length-lent, written, grown, renamed, all-written}
-use Rattle.formed.specs.Formed.{tableOf}
+use Rattle.record_read.specs.Formed.{tableOf}
 use Rattle.carried_over.proofs.Carrying.{later-read}
 use Rattle.table_lines.specs.Parts.{tableLines}
-use Rattle.rotation_lines.specs.Parts.{rotationLinesBy}
+use Rattle.chain_lines.specs.Parts.{rotationLinesBy}
 use Rattle.plan_text.proofs.Rotating.{row-past, text-is}
 use Rattle.plan_text.proofs.put_text.Statement.{statement}
 use Rattle.plan_text.proofs.put_text.Tie as tie

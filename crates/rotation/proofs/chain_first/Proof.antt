@@ -6,7 +6,7 @@ use native.Mathlib.Omega.{arith}
 use borrow.Author.Needs.{needs}
 use Rattle.paper.specs.Rotation.{firstOf}
 use Rattle.paper.proofs.Rotation.{first-back, first-zero, begins}
-use Rattle.links.specs.Links.{linkOf}
+use Rattle.row_edges.specs.Links.{linkOf}
 use Rattle.rotation.proofs.chain_first.Statement.{statement}
 use Rattle.rotation.proofs.chain_first.Tie as tie
 

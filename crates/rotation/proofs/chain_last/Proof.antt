@@ -5,8 +5,8 @@ use mathlib.Core.Path.{_≡_, sym, _∙_}
 use borrow.Author.Needs.{needs}
 use Rattle.paper.specs.Rotation.{firstOf}
 use Rattle.paper.proofs.Rotation.{first-on}
-use Rattle.links.specs.Links.{linkOf}
-use Rattle.links.proofs.Linking.{link-past}
+use Rattle.row_edges.specs.Links.{linkOf}
+use Rattle.row_edges.proofs.Linking.{link-past}
 use Rattle.rotation.proofs.chain_last.Statement.{statement}
 use Rattle.rotation.proofs.chain_last.Tie as tie
 

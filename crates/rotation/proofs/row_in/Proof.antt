@@ -6,7 +6,7 @@ use mathlib.Core.Bool.{Bool}
 use borrow.Author.Needs.{needs}
 use Rattle.paper.specs.Words.{row, engine}
 use Rattle.paper.specs.Rotation.{firstOf, rowAt}
-use Rattle.theorems.proofs.Chains.{in-chain, row-reduced}
+use Rattle.walk_laws.proofs.Chains.{in-chain, row-reduced}
 use Rattle.rotation.specs.Chains.{IsLast, round}
 use Rattle.rotation.proofs.row_in.Statement.{statement}
 use Rattle.rotation.proofs.row_in.Tie as tie

@@ -6,7 +6,7 @@ use native.Mathlib.Omega.{arith}
 use lib.ListN.{length}
 use borrow.Author.Needs.{needs}
 use Rattle.paper.specs.Text.{printLine, chainWord}
-use Rattle.print_lines.proofs.Line.{line-most}
+use Rattle.line_print.proofs.Line.{line-most}
 use Rattle.table_lines.proofs.put_chain.Statement.{statement}
 use Rattle.table_lines.proofs.put_chain.Tie as tie
 

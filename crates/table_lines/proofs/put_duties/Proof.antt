@@ -15,8 +15,8 @@ use Rattle.paper.specs.declared.Duty.{Duty}
 use Rattle.paper.specs.declared.Reading.{Reading}
 use Rattle.paper.specs.Words.{dutyAt}
 use Rattle.paper.specs.Text.{printLine, dutyWord, dutyLine}
-use Rattle.formed.specs.Formed.{tableOf}
-use Rattle.formed.proofs.Table.{table-duties}
+use Rattle.record_read.specs.Formed.{tableOf}
+use Rattle.record_read.proofs.Table.{table-duties}
 use Rattle.table_lines.proofs.TableLines.{duties-most}
 use Rattle.table_lines.proofs.put_duties.Statement.{statement}
 use Rattle.table_lines.proofs.put_duties.Tie as tie

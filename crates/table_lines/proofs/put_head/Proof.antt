@@ -7,7 +7,7 @@ use lib.ListN.{length}
 use borrow.Author.Needs.{needs}
 use Rattle.paper.specs.Bytes.{mostTicks}
 use Rattle.paper.specs.Text.{printLine, planWord}
-use Rattle.print_lines.proofs.Line.{line-most}
+use Rattle.line_print.proofs.Line.{line-most}
 use Rattle.table_lines.proofs.put_head.Statement.{statement}
 use Rattle.table_lines.proofs.put_head.Tie as tie
 

@@ -6,7 +6,7 @@ use native.Mathlib.Omega.{arith}
 use lib.ListN.{length}
 use borrow.Author.Needs.{needs}
 use Rattle.paper.specs.Text.{printLine, loadsWord}
-use Rattle.print_lines.proofs.Line.{line-most}
+use Rattle.line_print.proofs.Line.{line-most}
 use Rattle.table_lines.proofs.put_loads.Statement.{statement}
 use Rattle.table_lines.proofs.put_loads.Tie as tie
 

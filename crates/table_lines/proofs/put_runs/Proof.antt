@@ -11,8 +11,8 @@ use Rattle.laws.proofs.Listing.{Listing, listing-start, listing-at, listing-roo
 use Rattle.paper.specs.declared.Reading.{Reading}
 use Rattle.paper.specs.Words.{run}
 use Rattle.paper.specs.Text.{runLine}
-use Rattle.formed.specs.Formed.{tableOf}
-use Rattle.formed.proofs.Table.{table-runs}
+use Rattle.record_read.specs.Formed.{tableOf}
+use Rattle.record_read.proofs.Table.{table-runs}
 use Rattle.table_lines.proofs.TableLines.{runs-most}
 use Rattle.table_lines.proofs.put_runs.Statement.{statement}
 use Rattle.table_lines.proofs.put_runs.Tie as tie

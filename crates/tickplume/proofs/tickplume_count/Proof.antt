@@ -4,11 +4,11 @@ use mathlib.Core.Path.{sym, ap, _∙_}
 use borrow.Author.Needs.{needs}
 use mathlib.Core.List.{[], _∷_}
 use Rattle.paper.specs.Answers.{counted}
-use Rattle.theorems.proofs.Listed.{counted-listed}
+use Rattle.plan_laws.proofs.Listed.{counted-listed}
 use Rattle.load_count.specs.Told.{countAs}
 use Rattle.tickplume.specs.Face.{countCall, entries}
 use Rattle.tickplume.proofs.Telling.{tell-short, tell-refused, tell-answer}
-use Rattle.entries.proofs.Stored.{stored-one}
+use Rattle.face_entries.proofs.Stored.{stored-one}
 use Rattle.tickplume.proofs.tickplume_count.Statement.{statement}
 use Rattle.tickplume.proofs.tickplume_count.Tie as tie
 

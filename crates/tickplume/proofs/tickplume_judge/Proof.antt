@@ -5,8 +5,8 @@ use native.Mathlib.Omega.{arith}
 use borrow.Author.Needs.{needs}
 use Rattle.paper.specs.Outcome.{judgedAs}
 use Rattle.paper.specs.Rules.{judged}
-use Rattle.theorems.proofs.Listed.{judged-listed}
-use Rattle.entries.specs.Entries.{readingEntries}
+use Rattle.plan_laws.proofs.Listed.{judged-listed}
+use Rattle.face_entries.specs.Entries.{readingEntries}
 use Rattle.tickplume.specs.Face.{judgeCall, entries}
 use Rattle.tickplume.proofs.Telling.{tell-short, tell-refused, tell-answer}
 use Rattle.tickplume.proofs.tickplume_judge.Statement.{statement}

@@ -2,9 +2,9 @@
 -- Assumes nothing.
 use borrow.Author.Needs.{needs}
 use Rattle.paper.specs.Answers.{advanced}
-use Rattle.theorems.proofs.Listed.{next-listed}
+use Rattle.plan_laws.proofs.Listed.{next-listed}
 use Rattle.tickplume.specs.Face.{nextCall, entries}
-use Rattle.state_entries.specs.StateEntries.{stateEntries, stateIn}
+use Rattle.face_entries.specs.StateEntries.{stateEntries, stateIn}
 use Rattle.tickplume.proofs.Telling.{tell-short, tell-refused, tell-answer}
 use Rattle.tickplume.proofs.Handing.{handed-refused, handed-done}
 use Rattle.tickplume.proofs.Cut.{next-asked}

@@ -4,9 +4,9 @@ use mathlib.Core.Path.{sym, ap, _∙_}
 use borrow.Author.Needs.{needs}
 use Rattle.paper.specs.Words.{engine}
 use Rattle.paper.specs.Answers.{question}
-use Rattle.theorems.proofs.Listed.{question-listed}
+use Rattle.plan_laws.proofs.Listed.{question-listed}
 use Rattle.question.specs.Told.{answerAs}
-use Rattle.entries.specs.Entries.{replyEntries}
+use Rattle.face_entries.specs.Entries.{replyEntries}
 use Rattle.tickplume.specs.Face.{questionCall, entries}
 use Rattle.tickplume.proofs.Telling.{tell-short, tell-refused, tell-answer}
 use Rattle.tickplume.proofs.tickplume_question.Statement.{statement}

@@ -6,12 +6,12 @@ use mathlib.Core.List.{[], _∷_}
 use Rattle.paper.specs.declared.Row.{Row}
 use Rattle.paper.specs.Words.{engine}
 use Rattle.paper.specs.Answers.{rowTold}
-use Rattle.theorems.proofs.Listed.{row-listed}
-use Rattle.block_rows.specs.ByState.{rowAs}
+use Rattle.plan_laws.proofs.Listed.{row-listed}
+use Rattle.dispatch_state.specs.ByState.{rowAs}
 use Rattle.tickplume.specs.Face.{rowCall, entries, needing}
-use Rattle.state_entries.specs.StateEntries.{stateIn}
+use Rattle.face_entries.specs.StateEntries.{stateIn}
 use Rattle.tickplume.proofs.Telling.{tell-short, tell-refused, tell-answer, tell-next}
-use Rattle.entries.proofs.Stored.{stored-one}
+use Rattle.face_entries.proofs.Stored.{stored-one}
 use Rattle.tickplume.proofs.Cut.{row-asked}
 use Rattle.tickplume.proofs.tickplume_row.Statement.{statement}
 use Rattle.tickplume.proofs.tickplume_row.Tie as tie

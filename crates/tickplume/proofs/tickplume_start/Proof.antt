@@ -2,9 +2,9 @@
 -- Assumes nothing.
 use borrow.Author.Needs.{needs}
 use Rattle.paper.specs.Answers.{start}
-use Rattle.theorems.proofs.Listed.{start-listed}
+use Rattle.plan_laws.proofs.Listed.{start-listed}
 use Rattle.tickplume.specs.Face.{startCall, entries}
-use Rattle.state_entries.specs.StateEntries.{stateEntries}
+use Rattle.face_entries.specs.StateEntries.{stateEntries}
 use Rattle.tickplume.proofs.Telling.{tell-short, tell-refused, tell-answer}
 use Rattle.tickplume.proofs.Handing.{handed-refused, handed-done}
 use Rattle.tickplume.proofs.tickplume_start.Statement.{statement}

@@ -6,7 +6,7 @@ use borrow.Author.Needs.{needs}
 use Rattle.paper.specs.Answers.{rowTold}
 use Rattle.judge.proofs.Accepted.{accepted-as}
 use Rattle.judge.proofs.Asked.{asked-refused}
-use Rattle.block_rows.specs.ByState.{rowBy}
+use Rattle.dispatch_state.specs.ByState.{rowBy}
 use Rattle.dispatcher.specs.Told.{stateAs}
 use Rattle.dispatcher.proofs.Rows.{row-table, asked-by}
 use Rattle.dispatcher.proofs.Dispatcher.row.Statement.{statement}

@@ -1,0 +1,148 @@
+-- The three demands on the base, as theorems on the definitions. Each is a citation; the arguments stand in the files named in the `use` lines.
+-- What the code does is tied to these definitions by the contracts, each of which is an equation with one of them.
+-- Assumes nothing.
+use Prim.Native.Nat.{ℕ, _+_, _*_, _/_, _%_, _^_, _≤_, _<_}
+use mathlib.Core.Path.{_≡_, refl}
+use mathlib.Core.List.{List}
+use mathlib.Core.Logic.{_↔_, _⊎_, inl, inr}
+use lib.ListN.{length}
+use Rattle.laws.specs.Choice.{one-if}
+use Rattle.laws.specs.Sum.{sumTo}
+use Rattle.laws.proofs.Digits.{AreBytes}
+use Rattle.paper.specs.declared.Engine.{Engine}
+use Rattle.paper.specs.declared.Held.the-variants.{By}
+use Rattle.paper.specs.Words.{engine, row, jobStart, blockLengthOf, Table, dutyAt, heldIn}
+use Rattle.paper.specs.Sa1.{sa1}
+use Rattle.paper.specs.Rotation.{link, nextOf, rowAt}
+use Rattle.paper.specs.Schedule.{walk, given, served, load, loadsIn, loads}
+use Rattle.paper.specs.Outcome.{Outcome, refused, answer, andThen, leaves}
+use Rattle.paper.specs.Bytes.{small, encode}
+use Rattle.paper.specs.Builder.{dutiesOf, plan, build}
+use Rattle.paper.specs.Rules.{accepted, judged}
+use Rattle.paper.specs.Statements.{Ranged, Meets}
+use Rattle.paper.specs.Answers.{State, rowsAt, stateAt, mostBlocks, question, start, rowTold, advanced, counted}
+use Rattle.paper.specs.Text.{servicesOf, periodsOf, input}
+use Rattle.paper.proofs.Outcomes.{refused-leaves}
+use Rattle.paper.proofs.Rotation.{row-start, row-after}
+use Rattle.walk_laws.proofs.Service.{meets-serving, job-served, never-twice, one-engine}
+use Rattle.paper.proofs.Passed.{From}
+use Rattle.plan_laws.proofs.PlanWhen.{When, plan-when}
+use Rattle.plan_laws.proofs.Planned.{planned-sa1, planned-engines, planned-services, planned-periods, WhenBuilt, built-when, built, built-accepted}
+use Rattle.table_laws.proofs.AcceptedBytes.{accepted-ranged, accepted-meets, accepted-when}
+use Rattle.plan_laws.proofs.Listed.{Listed, build-listed, judged-listed, question-listed, start-listed, row-listed, next-listed, counted-listed, input-listed}
+use Rattle.paper.proofs.Asked.{advancedBy, question-is, start-is, row-is, row-strange, next-strange, next-all, counted-is}
+
+-- ---- Demand 1. "Every call takes whatever numbers and bytes arrive, ends, and either answers or refuses with the number document 01 lists. A
+-- ---- refused call changes no byte of the caller's."
+-- That a call takes everything and ends is in its contract, which has no `requires`; here: what the outcomes are.
+
+-- an outcome is an answer or a refusal
+pub settled : {A : Type 0} (o : Outcome A) → ((a : A) × (o ≡ answer a)) ⊎ ((n : ℕ) × (p : ℕ) × (o ≡ refused n p))
+settled (refused n p) = inr (n, p, refl)
+settled (answer a) = inl (a, refl)
+
+-- the numbers of each call's refusals; each fits a byte, and each place is at most 4,096
+pub refusals-listed :
+    ((m : ℕ) (ss ps : List ℕ) (room : ℕ) → Listed (From 1 8) (build m ss ps room))
+    × ((b : List ℕ) → Listed (From 10 17) (judged b))
+    × ((b : List ℕ) (e : Engine) (k : ℕ) → Listed (From 10 18) (question b e k))
+    × ((b : List ℕ) (k : ℕ) → Listed (From 10 17) (start b k))
+    × ((b : List ℕ) (s : State) (e : Engine) → Listed (λ n. From 10 18 n ⊎ (n ≡ 20)) (rowTold b s e))
+    × ((b : List ℕ) (s : State) → Listed (λ n. From 10 17 n ⊎ From 20 21 n) (advanced b s))
+    × ((b : List ℕ) (k : ℕ) → Listed (λ n. From 10 17 n ⊎ (n ≡ 19)) (counted b k))
+    × ((b : List ℕ) → Listed (λ n. n ≡ 9) (input b))
+refusals-listed = (build-listed, judged-listed, question-listed, start-listed, row-listed, next-listed, counted-listed, input-listed)
+
+-- "Refusals write nothing"
+pub refusal-writes-nothing : (n p : ℕ) (buffer : List ℕ) → leaves (refused n p) buffer ≡ buffer
+refusal-writes-nothing = refused-leaves
+
+-- ---- Demand 2. "The plan is SA1's; every duty gets exactly its service in each period, no engine two duties in a tick, no duty two engines. A
+-- ---- table is accepted, whoever wrote it, exactly when it meets document 01's rules."
+
+-- the plan is SA1's
+pub plan-sa1 : (m : ℕ) (ss ps : List ℕ) (t : Table) → plan m ss ps ≡ answer t → t ≡ sa1 (blockLengthOf (dutiesOf ss ps)) m (dutiesOf ss ps)
+plan-sa1 = planned-sa1
+
+-- there is a plan, or one of refusals 1 to 7 with its place, exactly where the document says so; the same with 8 for the bytes
+pub plan-exactly : (m : ℕ) (ss ps : List ℕ) (o : Outcome Table) → (plan m ss ps ≡ o) ↔ When m ss ps o
+plan-exactly = plan-when
+
+pub build-exactly : (m : ℕ) (ss ps : List ℕ) (room : ℕ) (o : Outcome (List ℕ)) → (build m ss ps room ≡ o) ↔ WhenBuilt m ss ps room o
+build-exactly = built-when
+
+-- what the builder writes is accepted and reads back as the plan of the engines and the duties that were given
+pub record ReadsBack (m : ℕ) (ss ps : List ℕ) (b : List ℕ) : Type 0 where
+  pub table : Table
+  pub is-plan : plan m ss ps ≡ answer table
+  pub is-read : accepted b ≡ answer table
+  pub engines : table .engines ≡ m
+  pub services : servicesOf (table .duties) ≡ ss
+  pub periods : periodsOf (table .duties) ≡ ps
+
+pub build-reads-back : (m : ℕ) (ss ps : List ℕ) (room : ℕ) (b : List ℕ) → build m ss ps room ≡ answer b → ReadsBack m ss ps b
+build-reads-back m ss ps room b h =
+    let r = built m ss ps room b h in
+    let t = r .table in
+    record {
+      table = t;
+      is-plan = r .plans;
+      is-read = built-accepted m ss ps room b h;
+      engines = planned-engines m ss ps t (r .plans);
+      services = planned-services m ss ps t (r .plans);
+      periods = planned-periods m ss ps t (r .plans);
+    }
+
+-- bytes are accepted as a table exactly when they are its bytes, every field is in range and rules 11 to 17 are met
+pub accepted-exactly : (b : List ℕ) (t : Table) → AreBytes b → (accepted b ≡ answer t) ↔ ((encode small t ≡ b) × Ranged small t × Meets t)
+accepted-exactly = accepted-when
+
+module _ (b : List ℕ) (t : Table) (h : accepted b ≡ answer t) where
+  -- service: in its ticks each job of each duty runs for the duty's service
+  pub jobs-served :
+      (i : ℕ) → i < length (t .duties) → (q : ℕ)
+      → served (t .engines) (walk t) i (jobStart (dutyAt (t .duties) i) q) (dutyAt (t .duties) i .period) ≡ dutyAt (t .duties) i .service
+  jobs-served = job-served t (accepted-ranged b t h) (accepted-meets b t h)
+
+  -- exclusion: at each tick a duty runs on one engine at most. (And an engine runs one duty at most: a schedule is a function.)
+  pub not-twice : (i k : ℕ) → given (t .engines) (walk t) i k ≤ 1
+  not-twice = never-twice t (accepted-ranged b t h) (accepted-meets b t h)
+
+  pub same-engine : (i k e d : ℕ) → walk t (engine e) k ≡ By i → walk t (engine d) k ≡ By i → e ≡ d
+  same-engine = one-engine t (meets-serving (accepted-ranged b t h) (accepted-meets b t h))
+
+  -- ---- Demand 3. "For every accepted table, engine and tick, the direct answer is the one found by walking from block 0 with the published
+  -- ---- rotation; the dispatcher's rows are that walk's; the loads reported equal those counted tick by tick, up to 1,000,000,000,000 blocks."
+
+  -- the walk: in block 0 engine i runs row i, and from each block to the next an engine takes the row next in the chain to the one it had;
+  -- at a tick it runs what stands on its row at the tick's unit
+  pub walk-rows :
+      ((e : Engine) → rowAt (link t) 0 e ≡ row (e .0)) × ((n : ℕ) (e : Engine) → rowAt (link t) (n + 1) e ≡ row (nextOf (link t) (rowAt (link t) n e .0)))
+      × ((e : Engine) (k : ℕ) → walk t e k ≡ heldIn (t .runs) (rowAt (link t) (k / t .ticks) e) (k % t .ticks))
+  unfolding walk
+  walk-rows = (row-start (link t), row-after (link t), (λ e k. refl))
+
+  -- the question
+  pub question-walks : (e : Engine) (k : ℕ) → e .0 < t .engines → question b e k ≡ answer (record { held = walk t e k; row = rowAt (link t) (k / t .ticks) e })
+  question-walks = question-is b t h
+
+  -- the dispatcher: started at block k and taken over n boundaries it is at block k + n ..
+  pub dispatcher-walks : (k n : ℕ) → k + n < 2 ^ 64 → andThen (start b k) (advancedBy b n) ≡ answer (stateAt t (k + n))
+  dispatcher-walks k n l = rw (start-is b t h k) (next-all b t h n k l)
+
+  -- .. and tells each engine's row there, the one that the question tells at each tick of that block
+  pub dispatcher-agrees :
+      (k n : ℕ) (e : Engine) (j : ℕ) → k + n < 2 ^ 64 → e .0 < t .engines → j / t .ticks ≡ k + n
+      → andThen (andThen (start b k) (advancedBy b n)) (λ s. rowTold b s e) ≡ andThen (question b e j) (λ r. answer (r .row))
+  dispatcher-agrees k n e j l a q = rw (dispatcher-walks k n l, question-is b t h e j a, q) (row-is b t h (k + n) e a)
+
+  -- a state that is not its block's is refused
+  pub strange-refused :
+      (s : State) → (s .rows ≡ rowsAt t (s .block) → ⊥)
+      → ((e : Engine) → e .0 < t .engines → rowTold b s e ≡ refused 20 0) × (advanced b s ≡ refused 20 0)
+  strange-refused s n = ((λ e l. row-strange b t h s e l n), next-strange b t h s n)
+
+  -- the count: every engine at every tick of the blocks
+  pub count-walks : (n : ℕ) → n ≤ mostBlocks → counted b n ≡ answer (sumTo (n * t .ticks) (λ k. sumTo (t .engines) (λ e. one-if (load (walk t) (engine e) k))))
+  unfolding loads loadsIn
+  count-walks = counted-is b t h

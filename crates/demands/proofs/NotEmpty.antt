@@ -1,0 +1,94 @@
+-- The theorems of `Demands` speak of something. A table written by hand is accepted, and the builder plans it for no engines and duties: it
+-- has five runs where SA1 has two. The table and the bytes of P2 meet the theorems' hypotheses, and what the theorems then say of them
+-- is stated here. Sets that the builder plans and sets that it refuses stand in `CasesHold`.
+-- Assumes nothing.
+use Prim.Native.Nat.{ℕ}
+use mathlib.Core.Path.{_≡_, refl, ap, _∙_}
+use mathlib.Core.List.{List, [], _∷_}
+use native.Mathlib.Omega.{arith}
+use lib.ListN.{length}
+use Rattle.laws.specs.Search.{first}
+use Rattle.laws.specs.Lists.{tab, flat, sumOf}
+use Rattle.laws.specs.Digits.{digits, numAt}
+use Rattle.laws.specs.Divisor.{gcdOf, gcd, euclid}
+use Rattle.laws.proofs.Lists.{length-tab}
+use Rattle.laws.proofs.Digits.{AreBytes}
+use Rattle.paper.specs.declared.Duty.{Duty}
+use Rattle.paper.specs.declared.Held.the-variants.{By}
+use Rattle.paper.specs.Words.{duty, run, row, engine, slice, whole, covers, heldIn, same, blockLengthOf, Table}
+use Rattle.paper.specs.Sa1.{sa1, lay, layOne, rowAfter, unitAfter}
+use Rattle.paper.specs.Rotation.{link, firstOf, nextOf, rowAt}
+use Rattle.paper.specs.Schedule.{walk, served}
+use Rattle.paper.specs.Outcome.{refused, answer}
+use Rattle.paper.specs.Bytes.{small, parse, afterHead, afterRuns, headGood, dutyGood, runGood, endGood, badDuty, goodRuns, tableIn, stands, dutyIn, runIn, encode, headBytes, dutyBytes, runBytes, endBytes}
+use Rattle.paper.specs.Builder.{dutiesOf, badRange, badSlice, planAt, planDuties, plan, fitted, build}
+use Rattle.paper.specs.Rules.{before, meet, unordered, overlaps, joins, twice, lowest, unitsOf, badSum, badOrder, judgeRuns, judgeTable, accepted}
+use Rattle.paper.specs.Statements.{Meets}
+use Rattle.paper.specs.Answers.{rowsAt, advanced, question}
+use Rattle.table_laws.proofs.Bytes.{encode-bytes}
+use Rattle.table_laws.proofs.AcceptedBytes.{accepted-meets}
+use Rattle.demands.proofs.Demands.{plan-sa1, jobs-served, question-walks, strange-refused}
+
+-- ---- a table that the builder does not write
+
+-- two duties on two rows of three with idle gaps, duty 0 in three pieces and duty 1 in two
+pub byHand : Table
+byHand =
+    record {
+      ticks = 6;
+      engines = 3;
+      duties = duty 3 6 ∷ duty 4 12 ∷ [];
+      runs = run 0 0 1 1 ∷ run 0 1 3 1 ∷ run 2 0 0 1 ∷ run 2 1 2 1 ∷ run 2 0 4 1 ∷ [];
+    }
+
+-- it is accepted
+pub byHand-accepted : accepted (encode small byHand) ≡ answer byHand
+unfolding byHand accepted parse afterHead afterRuns headGood dutyGood runGood endGood badDuty goodRuns tableIn stands dutyIn runIn numAt tab encode headBytes dutyBytes runBytes endBytes flat digits judgeTable judgeRuns badOrder badSum lowest overlaps joins twice meet before unordered unitsOf whole slice badSlice blockLengthOf gcdOf gcd euclid first
+byHand-accepted = refl
+
+-- SA1 gives these duties one run each
+byHand-own : byHand ≡ sa1 6 3 (byHand .duties) → ⊥
+unfolding byHand sa1 lay layOne rowAfter unitAfter slice
+byHand-own e = let z : _≡_ {A = ℕ} 5 2 = ap (λ (t : Table). length (t .runs)) e in omega arith
+
+-- a table of SA1's is the one of its own T, engines and duties
+sa1-own : (x : Table) (t m : ℕ) (ds : List Duty) → x ≡ sa1 t m ds → x ≡ sa1 (x .ticks) (x .engines) (x .duties)
+unfolding sa1
+sa1-own x t m ds e = rw e
+
+-- so the builder never plans it
+pub byHand-unplanned : (m : ℕ) (ss ps : List ℕ) → plan m ss ps ≡ answer byHand → ⊥
+unfolding byHand
+byHand-unplanned m ss ps h =
+    byHand-own (sa1-own byHand (blockLengthOf (dutiesOf ss ps)) m (dutiesOf ss ps) (plan-sa1 m ss ps byHand h))
+
+-- its bytes are bytes, and it meets the rules
+pub byHand-bytes : AreBytes (encode small byHand)
+byHand-bytes = encode-bytes small byHand (omega arith) (omega arith)
+
+pub byHand-meets : Meets byHand
+byHand-meets = accepted-meets (encode small byHand) byHand byHand-accepted
+
+-- ---- the theorems at work
+
+-- job 5 of duty 1, which has the ticks 60 to 71, runs for 4 ticks of them
+pub job-of-byHand : served 3 (walk byHand) 1 60 12 ≡ 4
+unfolding byHand
+job-of-byHand = jobs-served (encode small byHand) byHand byHand-accepted 1 (omega arith) 5
+
+-- at tick 10 engine 2 runs row 2, where unit 4 is duty 0's
+pub question-of-byHand : question (encode small byHand) (engine 2) 10 ≡ answer (record { held = By 0; row = row 2 })
+unfolding byHand walk link heldIn covers same rowAt nextOf firstOf
+question-of-byHand = question-walks (encode small byHand) byHand byHand-accepted (engine 2) 10 (omega arith)
+
+-- a state with no rows is refused
+pub state-of-byHand : advanced (encode small byHand) (record { block = 0; rows = [] }) ≡ refused 20 0
+unfolding rowsAt
+state-of-byHand =
+    strange-refused (encode small byHand) byHand byHand-accepted (record { block = 0; rows = [] })
+    (λ e. let z : 0 ≡ 32 = ap length e ∙ length-tab 32 _ in omega arith) .1
+
+-- the builder writes P2's 30 bytes into a buffer of 30, and refuses one of 29
+pub built-p2 : (build 1 (1 ∷ []) (1 ∷ []) 30 ≡ answer (1 ∷ 1 ∷ 0 ∷ 0 ∷ 0 ∷ 1 ∷ 1 ∷ 2 ∷ 1 ∷ 0 ∷ 0 ∷ 0 ∷ 1 ∷ 0 ∷ 0 ∷ 0 ∷ 3 ∷ 0 ∷ 0 ∷ 0 ∷ 0 ∷ 0 ∷ 0 ∷ 1 ∷ 0 ∷ 0 ∷ 0 ∷ 4 ∷ 1 ∷ 0 ∷ [])) × (build 1 (1 ∷ []) (1 ∷ []) 29 ≡ refused 8 30)
+unfolding build fitted plan planDuties planAt badRange badSlice sa1 lay layOne rowAfter unitAfter slice whole blockLengthOf gcdOf gcd euclid dutiesOf tab sumOf first encode headBytes dutyBytes runBytes endBytes flat digits
+built-p2 = (refl, refl)

@@ -1,0 +1,105 @@
+// The rows of all engines in a block, worked out from the block's number; and what a dispatcher's state, a block and its rows, comes to:
+// the block after it, or the row of an engine.
+ghost use mathlib.Core.Path.{_≡_};
+ghost use Prim.Native.Nat.{_≤_};
+ghost use Rattle.laws.specs.Lists.{same-list};
+ghost use Rattle.row_edges.specs.Links.{linkOf};
+ghost use Rattle.dispatch_state.specs.RowsBy.{rowsBy};
+ghost use Rattle.dispatch_state.specs.ByState.{stepAs, rowAs, stepBy, rowBy};
+use paper::Engine;
+use paper::Row;
+use rotation::row_in;
+
+const MOST_ENGINES: usize = 32;
+
+const LAST_BLOCK: u64 = 18446744073709551615;
+
+// The row of an engine, or a refusal.
+pub enum RowTold {
+    At(Row),
+    Refused(u32, usize),
+}
+
+// The block after a state's, or the refusal's number.
+pub enum Step {
+    To(u64),
+    Refused(u32),
+}
+
+// The rows of all engines in a block, by what holds the first and the last unit of each row.
+pub fn rows_at(engines: u32, starts: &[u32; 33], ends: &[u32; 33], block: u64) -> [u32; 32]
+    requires { ⌜ engines ≤ 32 ⌝ }
+    ensures { λ r. ⌜ r ≡ rowsBy (linkOf (now (starts .entry)) (now (ends .entry))) engines block ⌝ }
+{
+    let mut rows = [0u32; 32];
+    let mut i: u32 = 0;
+    while i < engines {
+        let at = i as usize;
+        rows[at] = row_in(starts, ends, Engine(i), block).0;
+        i += 1;
+    }
+    rows
+}
+
+// Whether two lists of rows are the same.
+fn same_rows(a: [u32; 32], b: [u32; 32]) -> bool
+    ensures { λ r. ⌜ r ≡ same-list a b ⌝ }
+{
+    let mut i = 0;
+    while i < MOST_ENGINES {
+        if a[i] != b[i] {
+            return false;
+        }
+        i += 1;
+    }
+    true
+}
+
+// Whether a block's rows are these.
+fn is_own(engines: u32, starts: &[u32; 33], ends: &[u32; 33], block: u64, rows: [u32; 32]) -> bool
+    requires { ⌜ engines ≤ 32 ⌝ }
+    ensures { λ r. ⌜ r ≡ same-list rows (rowsBy (linkOf (now (starts .entry)) (now (ends .entry))) engines block) ⌝ }
+{
+    same_rows(rows, rows_at(engines, starts, ends, block))
+}
+
+// The block after a state's.
+pub fn advance(
+    engines: u32,
+    starts: &[u32; 33],
+    ends: &[u32; 33],
+    block: u64,
+    rows: [u32; 32],
+) -> Step
+    requires { ⌜ engines ≤ 32 ⌝ }
+    ensures { λ r. ⌜ stepAs r ≡ stepBy (linkOf (now (starts .entry)) (now (ends .entry))) engines block rows ⌝ }
+{
+    if !is_own(engines, starts, ends, block, rows) {
+        return Step::Refused(20);
+    }
+    if block == LAST_BLOCK {
+        return Step::Refused(21);
+    }
+    Step::To(block + 1)
+}
+
+// The row of an engine by a state.
+pub fn tell(
+    engines: u32,
+    starts: &[u32; 33],
+    ends: &[u32; 33],
+    block: u64,
+    rows: [u32; 32],
+    engine: Engine,
+) -> RowTold
+    requires { ⌜ engines ≤ 32 ⌝ }
+    ensures { λ r. ⌜ rowAs r ≡ rowBy (linkOf (now (starts .entry)) (now (ends .entry))) engines block rows engine ⌝ }
+{
+    if engines <= engine.0 {
+        return RowTold::Refused(18, 0);
+    }
+    if !is_own(engines, starts, ends, block, rows) {
+        return RowTold::Refused(20, 0);
+    }
+    RowTold::At(row_in(starts, ends, engine, block))
+}

@@ -1,0 +1,83 @@
+// What the outside face hands over: words, and the entries of lent answers; a dispatcher's state as entries, the block and then the
+// rows, taken and put.
+ghost use mathlib.Core.Path.{_≡_};
+ghost use Prim.Native.Nat.{_+_, _*_, _≤_, _<_, min};
+ghost use lib.ListN.{length, getD};
+ghost use Rattle.laws.specs.Lists.{over, tab};
+ghost use Rattle.face_entries.specs.Entries.{readingEntries, heldEntry, replyEntries};
+ghost use mathlib.Core.List.{_∷_};
+use paper::Held;
+use paper::Reading;
+use paper::Row;
+
+// A refusal as a word.
+pub fn refusal(number: u32, place: usize) -> u64
+    requires { ⌜ (number < 256) × (place ≤ 4096) ⌝ }
+    ensures { λ r. ⌜ r ≡ number + 256 * place ⌝ }
+{
+    number as u64 + 256 * place as u64
+}
+
+// An entry of a lent state as a row number; one that is too large becomes a number that no row has.
+pub fn narrow(x: u64) -> u32
+    ensures { λ r. ⌜ r ≡ min x 4294967295 ⌝ }
+{
+    if x < 4294967295 { x as u32 } else { 4294967295 }
+}
+
+// A table's reading put into a lent answer: block length, engines, duties, runs.
+pub fn put_reading(answer: &mut [u64], rd: Reading)
+    requires { ⌜ 4 ≤ length (now answer) ⌝ }
+    ensures { λ r. ⌜ now (answer .exit) ≡ over (readingEntries rd) (now (answer .entry)) ⌝ }
+{
+    answer[0] = rd.block_length as u64;
+    answer[1] = rd.engines as u64;
+    answer[2] = rd.duties as u64;
+    answer[3] = rd.runs as u64;
+}
+
+// What holds a tick as one entry: the duty, or the mark for idle.
+fn held_entry(held: Held) -> u64
+    ensures { λ r. ⌜ r ≡ heldEntry held ⌝ }
+{
+    match held {
+        Held::By(duty) => duty as u64,
+        Held::Idle => 18446744073709551615,
+    }
+}
+
+// A reply put into a lent answer: the row, and the duty or the mark for idle.
+pub fn put_reply(answer: &mut [u64], row: Row, held: Held)
+    requires { ⌜ 2 ≤ length (now answer) ⌝ }
+    ensures { λ r. ⌜ now (answer .exit) ≡ over (replyEntries (record { held = held; row = row })) (now (answer .entry)) ⌝ }
+{
+    answer[0] = row.0 as u64;
+    answer[1] = held_entry(held);
+}
+
+// The rows in a lent state.
+pub fn rows_in(state: &[u64]) -> [u32; 32]
+    requires { ⌜ 33 ≤ length (now state) ⌝ }
+    ensures { λ r. ⌜ r ≡ tab 32 (λ e. min (getD (now (state .entry)) (e + 1) 0) 4294967295) ⌝ }
+{
+    let mut rows = [0u32; 32];
+    let mut e = 0;
+    while e < 32 {
+        rows[e] = narrow(state[e + 1]);
+        e += 1;
+    }
+    rows
+}
+
+// A block and its rows put into a lent state.
+pub fn put_state(state: &mut [u64], block: u64, rows: [u32; 32])
+    requires { ⌜ 33 ≤ length (now state) ⌝ }
+    ensures { λ r. ⌜ now (state .exit) ≡ over (block ∷ rows) (now (state .entry)) ⌝ }
+{
+    state[0] = block;
+    let mut e = 0;
+    while e < 32 {
+        state[e + 1] = rows[e] as u64;
+        e += 1;
+    }
+}

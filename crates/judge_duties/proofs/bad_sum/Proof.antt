@@ -1,0 +1,63 @@
+-- `bad_sum`: a search for the first duty whose runs do not add up.
+-- Assumes nothing.
+use Prim.Native.Nat.{_-_}
+use mathlib.Core.Path.{sym, _∙_}
+use mathlib.Core.Bool.{not}
+use borrow.Author.Needs.{needs}
+use lib.Dec.{eqb}
+use Rattle.laws.proofs.Search.{Seeking, seek-none, seek-more, seek-hit, seek-miss}
+use Rattle.paper.specs.Words.{slice, dutyAt}
+use Rattle.paper.specs.Rules.{unitsOf, badSum}
+use Rattle.record_read.specs.Formed.{tableOf}
+use Rattle.record_read.proofs.Table.{table-duties}
+use Rattle.judge_duties.proofs.bad_sum.Statement.{statement}
+use Rattle.judge_duties.proofs.bad_sum.Tie as tie
+
+abbrev Inv-loop : tie.InvT-loop
+Inv-loop b rd units n i₀ i = Seeking (λ d. not (eqb (unitsOf (tableOf b rd .runs) d) (slice (tableOf b rd .ticks) (dutyAt (tableOf b rd .duties) d)))) (rd .duties) i
+
+abbrev μ-loop : tie.MeasureT-loop
+μ-loop b rd units n i₀ i = rd .duties - i
+
+cast-n : tie.Need-cast-n Inv-loop μ-loop
+cast-n c = search needs
+
+loop-holds : tie.Need-loop-holds Inv-loop μ-loop
+loop-holds c = seek-none _ _
+
+is-wrong-sum-requires : tie.Need-is-wrong-sum-requires Inv-loop μ-loop
+is-wrong-sum-requires c κs = search needs
+
+returns : tie.Need-returns Inv-loop μ-loop
+unfolding badSum
+returns c =
+    rw (table-duties _ (c .before .before .before .before .before .before .args .rd))
+    (seek-hit (c .before .before .before .loop .inv) (search needs) (sym (c .before .is-wrong-sum .ensures) ∙ c .if1 .taken))
+
+add-i : tie.Need-add-i Inv-loop μ-loop
+add-i c = search needs
+
+loop-less : tie.Need-loop-less Inv-loop μ-loop
+loop-less c = search needs
+
+loop-again : tie.Need-loop-again Inv-loop μ-loop
+loop-again c = seek-more (c .before .before .before .loop .inv) (search needs) (sym (c .before .is-wrong-sum .ensures) ∙ c .if1 .left)
+
+returns-2 : tie.Need-returns-2 Inv-loop μ-loop
+unfolding badSum
+returns-2 c = rw (table-duties _ (c .before .before .before .before .args .rd)) (seek-miss (c .before .loop .inv) (search needs))
+
+pub bad-sum-spec : {M : Type 1} → statement M
+bad-sum-spec =
+    tie.close
+    (tie.spec
+    Inv-loop
+    μ-loop
+    cast-n
+    loop-holds
+    is-wrong-sum-requires
+    returns
+    add-i
+    loop-less
+    loop-again
+    returns-2)

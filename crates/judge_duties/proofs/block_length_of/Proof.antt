@@ -1,0 +1,68 @@
+-- `block_length_of`: the divisor so far, with that of the periods that are left, is that of them all.
+-- Assumes nothing.
+use Prim.Native.Nat.{_-_, _≤_}
+use mathlib.Core.Path.{_≡_, sym, _∙_}
+use native.Mathlib.Omega.{arith}
+use borrow.Author.Needs.{needs}
+use Rattle.laws.specs.Divisor.{gcd, gcdOf}
+use Rattle.paper.specs.Words.{blockLengthOf}
+use Rattle.record_read.specs.Formed.{tableOf}
+use Rattle.record_read.proofs.Table.{table-duties}
+use Rattle.judge_duties.proofs.Periods.{periodsFrom, periods-start, periods-further, periods-finished}
+use Rattle.judge_duties.proofs.block_length_of.Statement.{statement}
+use Rattle.judge_duties.proofs.block_length_of.Tie as tie
+
+abbrev Inv-loop : tie.InvT-loop
+Inv-loop b rd n g₀ d₀ g d = (d ≤ rd .duties) × (gcd g (gcdOf (periodsFrom d (tableOf b rd .duties))) ≡ blockLengthOf (tableOf b rd .duties))
+
+abbrev μ-loop : tie.MeasureT-loop
+μ-loop b rd n g₀ d₀ g d = rd .duties - d
+
+cast-n : tie.Need-cast-n Inv-loop μ-loop
+cast-n c = search needs
+
+loop-holds : tie.Need-loop-holds Inv-loop μ-loop
+loop-holds c = (search needs, periods-start _)
+
+duty-of-requires : tie.Need-duty-of-requires Inv-loop μ-loop
+duty-of-requires c κs = search needs
+
+gcd-of-requires : tie.Need-gcd-of-requires Inv-loop μ-loop
+gcd-of-requires c κs = search needs
+
+add-d : tie.Need-add-d Inv-loop μ-loop
+add-d c = search needs
+
+loop-less : tie.Need-loop-less Inv-loop μ-loop
+loop-less c = search needs
+
+loop-again : tie.Need-loop-again Inv-loop μ-loop
+loop-again c =
+    let b = c .before .before .before .before .before .before .args .b .now in
+    let rd = c .before .before .before .before .before .before .args .rd in (
+      search needs,
+      rw (c .gcd-of .ensures, c .before .duty-of .ensures .0)
+          (periods-further (c .before .before .before .loop .g) (c .before .before .before .loop .d) (tableOf b rd .duties) (omega (arith, table-duties b rd)) ∙ c .before .before .before .loop .inv .1),
+    )
+
+returns : tie.Need-returns Inv-loop μ-loop
+returns c =
+    let b = c .before .before .before .before .args .b .now in
+    let rd = c .before .before .before .before .args .rd in
+    sym (periods-finished (c .before .loop .g) (c .before .loop .d) (tableOf b rd .duties) (omega (arith, table-duties b rd)))
+    ∙ c .before .loop .inv .1
+
+pub block-length-of-spec : {M : Type 1} → statement M
+block-length-of-spec =
+    tie.close
+    (tie.spec
+    Inv-loop
+    μ-loop
+    cast-n
+    loop-holds
+    duty-of-requires
+    gcd-of-requires
+    add-d
+    loop-less
+    loop-again
+    returns)

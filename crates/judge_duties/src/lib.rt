@@ -1,0 +1,74 @@
+// The rules that speak of duties, of a table's bytes in good form: 11, the block length; 12, whole slices; 17, runs that add up to
+// the slice. Each is a search for the lowest duty that does not meet it.
+ghost use mathlib.Core.Path.{_≡_};
+ghost use mathlib.Core.Bool.{not};
+ghost use Prim.Native.Nat.{_<_};
+ghost use lib.Dec.{eqb};
+ghost use Rattle.paper.specs.Words.{dutyAt, slice, blockLengthOf};
+ghost use Rattle.paper.specs.Builder.{badSlice};
+ghost use Rattle.paper.specs.Rules.{unitsOf, badSum};
+ghost use Rattle.record_read.specs.Formed.{Formed, tableOf};
+ghost use Rattle.table_tally.specs.Tally.{unitsIn};
+use paper::Reading;
+use record_read::duty_of;
+use slices::gcd_of;
+use slices::is_whole;
+use slices::slice_of;
+
+// The greatest common divisor of all periods.
+pub fn block_length_of(b: &[u8], rd: Reading) -> u32
+    requires { ⌜ Formed (now b) rd ⌝ }
+    ensures { λ r. ⌜ r ≡ blockLengthOf (tableOf (now (b .entry)) rd .duties) ⌝ }
+{
+    let n = rd.duties as usize;
+    let mut g: u32 = 0;
+    let mut d = 0;
+    while d < n {
+        g = gcd_of(g, duty_of(b, rd, d).period);
+        d += 1;
+    }
+    g
+}
+
+// The lowest duty with a slice that is not whole, or how many duties there are.
+pub fn bad_slice(b: &[u8], rd: Reading) -> usize
+    requires { ⌜ Formed (now b) rd ⌝ }
+    ensures { λ r. ⌜ r ≡ badSlice (tableOf (now (b .entry)) rd .ticks) (tableOf (now (b .entry)) rd .duties) ⌝ }
+{
+    let n = rd.duties as usize;
+    let t = rd.block_length;
+    let mut d = 0;
+    while d < n {
+        if !is_whole(t, duty_of(b, rd, d)) {
+            return d;
+        }
+        d += 1;
+    }
+    d
+}
+
+// Whether the runs of duty i do not add up to its slice, by the units of each duty.
+fn is_wrong_sum(b: &[u8], rd: Reading, units: &[u32; 64], i: usize) -> bool
+    requires { ⌜ Formed (now b) rd ⌝ }
+    requires { ⌜ (now units ≡ unitsIn (tableOf (now b) rd)) × (i < rd .duties) ⌝ }
+    ensures { λ r. ⌜ r ≡ not (eqb (unitsOf (tableOf (now (b .entry)) rd .runs) i) (slice (tableOf (now (b .entry)) rd .ticks) (dutyAt (tableOf (now (b .entry)) rd .duties) i))) ⌝ }
+{
+    units[i] != slice_of(rd.block_length, duty_of(b, rd, i))
+}
+
+// The lowest duty whose runs do not add up to its slice, or how many duties there are.
+pub fn bad_sum(b: &[u8], rd: Reading, units: &[u32; 64]) -> usize
+    requires { ⌜ Formed (now b) rd ⌝ }
+    requires { ⌜ now units ≡ unitsIn (tableOf (now b) rd) ⌝ }
+    ensures { λ r. ⌜ r ≡ badSum (tableOf (now (b .entry)) rd) ⌝ }
+{
+    let n = rd.duties as usize;
+    let mut i = 0;
+    while i < n {
+        if is_wrong_sum(b, rd, units, i) {
+            return i;
+        }
+        i += 1;
+    }
+    i
+}

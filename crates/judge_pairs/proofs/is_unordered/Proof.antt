@@ -1,0 +1,37 @@
+-- `is_unordered`: run 0 has no forerunner, every other is compared with it.
+-- Assumes nothing.
+use mathlib.Core.Path.{sym}
+use Rattle.judge_pairs.proofs.Forerunners.{unordered-after}
+use Rattle.paper.specs.Rules.{unordered}
+use borrow.Author.Needs.{needs}
+use Rattle.judge_pairs.proofs.is_unordered.Statement.{statement}
+use Rattle.judge_pairs.proofs.is_unordered.Tie as tie
+
+returns : tie.Need-returns
+unfolding unordered
+returns c = rw (c .if1 .taken)
+
+sub-run-of : tie.Need-sub-run-of
+sub-run-of c = search needs
+
+run-of-requires : tie.Need-run-of-requires
+run-of-requires c κs = search needs
+
+run-of-requires-2 : tie.Need-run-of-requires-2
+run-of-requires-2 c κs = search needs
+
+is-before-requires : tie.Need-is-before-requires
+is-before-requires c κs = search needs
+
+returns-2 : tie.Need-returns-2
+returns-2 c =
+    rw (
+      c .is-before .ensures,
+      c .before .before .run-of .ensures .0,
+      c .before .run-of2 .ensures .0,
+    ) (sym (unordered-after _ _ (search needs)))
+
+pub is-unordered-spec : {M : Type 1} → statement M
+is-unordered-spec =
+    tie.close
+    (tie.spec returns sub-run-of run-of-requires run-of-requires-2 is-before-requires returns-2)

@@ -1,0 +1,175 @@
+-- SA1's table is in form and meets the rules, where the duties are in range, their slices whole and the slices fit the
+-- engines. Rules 12 to 17 need nothing of T but that the slices are whole, so each has a lemma of its own; that T is the
+-- block length goes into rule 11 alone.
+-- Assumes nothing.
+use Prim.Native.Nat.{ℕ, zero, suc, _+_, _*_, _≤_, _<_, _∣_}
+use mathlib.Core.Path.{_≡_, refl, sym, ap, _∙_}
+use mathlib.Core.Bool.{true}
+use mathlib.Core.List.{List, [], _∷_}
+use native.Mathlib.Nat.{not-suc-le-zero, le-of-suc-le-suc, le-div-iff-mul-le, div-le-of-le-mul, le-of-dvd, mul-pos, mul-le-mul-left, lt-of-mul-lt-mul-right, zero-add}
+use native.Mathlib.Omega.{arith}
+use lib.ListN.{length, getD, length-map}
+use Rattle.laws.specs.Choice.{one-if}
+use Rattle.laws.specs.Sum.{sumTo}
+use Rattle.laws.specs.Lists.{sumOf}
+use Rattle.laws.proofs.Cases.{by-order}
+use Rattle.laws.proofs.Each.{Each, each-at, at-each, each-of-map, pairs-at}
+use Rattle.paper.specs.declared.Duty.{Duty}
+use Rattle.paper.specs.declared.Run.{Run}
+use Rattle.paper.specs.Words.{duty, run, stop, slice, blockLengthOf, dutyAt, runAt}
+use Rattle.paper.specs.Sa1.{lay, slices, sa1}
+use Rattle.paper.specs.Bytes.{Width, mostTicks}
+use Rattle.paper.specs.Rules.{before, unitsOf}
+use Rattle.paper.specs.Statements.{DutyRanged, RunRanged, Ranged, Apart, Meets}
+use Rattle.paper.proofs.Passed.{Ranges}
+use Rattle.table_laws.proofs.Rules.{InOrder, NotJoined, Wholes, before-when}
+use Rattle.paper.proofs.Holding.{RowsApart}
+use Rattle.plan_laws.proofs.Sa1.{Slice, Of, Follows, laid-between, follows, rows-below, few-runs}
+use Rattle.plan_laws.proofs.Sa1Shares.{units-laid, isSplit, few-splits}
+
+-- a whole slice is from 1 to T
+pub slice-bounds : (t : ℕ) (x : Duty) → 1 ≤ t → DutyRanged x → x .period ∣ t * x .service → Slice t (slice t x)
+unfolding slice
+slice-bounds t x a d w = (
+  le-div-iff-mul-le (d .period-least) .1 (omega (arith, le-of-dvd (mul-pos a (d .service-least)) w)),
+  div-le-of-le-mul (x .period) (omega (arith, mul-le-mul-left t (d .service-most))),
+)
+
+-- a T that divides the periods is no longer than the longest period may be
+pub ticks-within :
+    (t : ℕ) (ds : List Duty) → 1 ≤ length ds → Ranges ds
+    → ((i : ℕ) → i < length ds → t ∣ dutyAt ds i .period) → t ≤ mostTicks
+ticks-within t ds a r d = omega (arith, r 0 a, le-of-dvd (r 0 a .period-least) (d 0 a))
+
+-- what the builder has made sure of: everything in range, the slices whole, and no more of them than the engines have units
+pub record Fits (w : Width) (t m : ℕ) (ds : List Duty) : Type 0 where
+  pub ticks-least : 1 ≤ t
+  pub ticks-most : t ≤ mostTicks
+  pub engines-least : 1 ≤ m
+  pub engines-most : m ≤ w .mostEngines
+  pub duties-least : 1 ≤ length ds
+  pub duties-most : length ds ≤ w .mostDuties
+  pub duty-ranged : Ranges ds
+  pub slices-whole : Wholes t ds
+  pub slices-fit : sumOf (slices t ds) ≤ m * t
+
+-- the slice of duty i in the list of all
+slices-at : (t : ℕ) (ds : List Duty) (i : ℕ) → i < length ds → getD (slices t ds) i 0 ≡ slice t (dutyAt ds i)
+slices-at t [] i h = absurd (not-suc-le-zero h)
+slices-at t (x ∷ ds) zero h = refl
+slices-at t (x ∷ ds) (suc i) h = slices-at t ds i (le-of-suc-le-suc h)
+
+-- a run that follows another is after it by (row, first unit)
+before-after : (t : ℕ) (x y : Run) → Follows t x y → 1 ≤ x .length → 1 ≤ y .length → stop y ≤ t → before x y ≡ true
+before-after t x y f a b c =
+    let row : x .row .0 < y .row .0 + 1 = lt-of-mul-lt-mul-right t (omega (arith, f .after)) in
+    before-when x y (omega arith) (λ e. omega (arith, f .after, ap (λ (r : ℕ). r * t) e))
+
+-- on one row it starts where the other has stopped
+pub apart-after : (t : ℕ) (x y : Run) → Follows t x y → x .row .0 ≡ y .row .0 → Apart x y
+apart-after t x y f e u p q = omega (arith, f .after, ap (λ (r : ℕ). r * t) e)
+
+module _ (w : Width) (t m : ℕ) (ds : List Duty) (f : Fits w t m ds) where
+  -- every slice is from 1 to T
+  pub all-slices : Each (Slice t) (slices t ds)
+  all-slices =
+      each-of-map (Slice t) (slice t) ds
+      (at-each (λ x. Slice t (slice t x)) (duty 0 0) ds
+      (λ i h. slice-bounds t (dutyAt ds i) (f .ticks-least) (f .duty-ranged i h) (f .slices-whole i h)))
+
+  -- run k by itself
+  run-laid : (k : ℕ) → k < length (sa1 t m ds .runs) → Of t (slices t ds) 0 0 0 (runAt (sa1 t m ds .runs) k)
+  unfolding sa1
+  run-laid k h = each-at (Of t (slices t ds) 0 0 0) (run 0 0 0 0) (lay t (slices t ds) 0 0 0) (laid-between t (slices t ds) 0 0 0 (f .ticks-least) all-slices) k h
+
+  -- run k with an earlier one
+  run-follows : (j k : ℕ) → j < k → k < length (sa1 t m ds .runs) → Follows t (runAt (sa1 t m ds .runs) j) (runAt (sa1 t m ds .runs) k)
+  unfolding sa1
+  run-follows j k l h = pairs-at (Follows t) (run 0 0 0 0) (lay t (slices t ds) 0 0 0) (follows t (slices t ds) 0 0 0 (f .ticks-least) all-slices) j k l h
+
+  -- every run is in range
+  pub sa1-run-ranged : (k : ℕ) → k < length (sa1 t m ds .runs) → RunRanged t m (length ds) (runAt (sa1 t m ds .runs) k)
+  unfolding sa1
+  sa1-run-ranged k h =
+      record {
+        row-below = each-at (λ x. x .row .0 < m) (run 0 0 0 0) (lay t (slices t ds) 0 0 0) (rows-below t m (slices t ds) 0 0 0 (f .ticks-least) all-slices (omega (arith, f .slices-fit))) k h;
+        duty-below = omega (arith, run-laid k h, length-map ds (slice t));
+        some-units = run-laid k h .some-units;
+        inside = run-laid k h .inside;
+      }
+
+  -- no more runs than duties and engines less one
+  pub sa1-few-runs : length (sa1 t m ds .runs) + 1 ≤ length ds + m
+  unfolding sa1
+  sa1-few-runs =
+      omega (arith, length-map ds (slice t), few-runs t m (slices t ds) 0 0 0 (f .ticks-least) all-slices (omega (arith, f .duties-least, length-map ds (slice t))) (omega (arith, f .slices-fit)))
+
+  -- fewer duties are split than there are engines
+  pub sa1-few-splits : sumTo (length ds) (λ i. one-if (isSplit (sa1 t m ds .runs) i)) + 1 ≤ m
+  unfolding sa1
+  sa1-few-splits =
+      rw (← length-map ds (slice t))
+      (few-splits t m (slices t ds) (f .ticks-least) all-slices (omega (arith, f .duties-least, length-map ds (slice t))) (f .slices-fit))
+
+  -- the table is in form
+  pub sa1-ranged : w .mostDuties + w .mostEngines ≤ w .mostRuns + 1 → Ranged w (sa1 t m ds)
+  unfolding sa1
+  sa1-ranged room =
+      record {
+        ticks-least = f .ticks-least;
+        ticks-most = f .ticks-most;
+        engines-least = f .engines-least;
+        engines-most = f .engines-most;
+        duties-least = f .duties-least;
+        duties-most = f .duties-most;
+        runs-most = omega (arith, sa1-few-runs, f .duties-most, f .engines-most);
+        duty-ranged = f .duty-ranged;
+        run-ranged = sa1-run-ranged;
+      }
+
+  -- rule 12
+  pub sa1-whole : Wholes (sa1 t m ds .ticks) (sa1 t m ds .duties)
+  unfolding sa1
+  sa1-whole = f .slices-whole
+
+  -- rule 13
+  pub sa1-in-order : InOrder (sa1 t m ds .runs)
+  sa1-in-order k h =
+      before-after t _ _ (run-follows k (k + 1) (omega arith) h) (run-laid k (omega arith) .some-units) (run-laid (k + 1) h .some-units) (run-laid (k + 1) h .inside)
+
+  -- rule 14
+  pub sa1-apart-in-row : RowsApart (sa1 t m ds .runs)
+  sa1-apart-in-row j k l h e = apart-after t _ _ (run-follows j k l h) e
+
+  -- rule 15
+  pub sa1-not-joined : NotJoined (sa1 t m ds .runs)
+  sa1-not-joined j k a b r d s =
+      by-order j k (λ l. omega (arith, run-follows j k l b .split d)) (λ l. omega (arith, run-follows k j l a .split (sym d)))
+      (λ e. omega (arith, run-laid j a .some-units, ap (λ (i : ℕ). runAt (sa1 t m ds .runs) i .first) e))
+
+  -- rule 16
+  pub sa1-apart-of-duty : (j k : ℕ) → j < k → k < length (sa1 t m ds .runs) → runAt (sa1 t m ds .runs) j .duty ≡ runAt (sa1 t m ds .runs) k .duty
+      → (runAt (sa1 t m ds .runs) j .row .0 ≡ runAt (sa1 t m ds .runs) k .row .0 → ⊥) → Apart (runAt (sa1 t m ds .runs) j) (runAt (sa1 t m ds .runs) k)
+  sa1-apart-of-duty j k l h d r u p q = omega (arith, run-follows j k l h .split d)
+
+  -- rule 17
+  pub sa1-sums : (i : ℕ) → i < length (sa1 t m ds .duties) → unitsOf (sa1 t m ds .runs) i ≡ slice (sa1 t m ds .ticks) (dutyAt (sa1 t m ds .duties) i)
+  unfolding sa1
+  sa1-sums i h =
+      ap (unitsOf (lay t (slices t ds) 0 0 0)) (sym (zero-add i))
+      ∙ units-laid t (slices t ds) 0 0 0 (f .ticks-least) all-slices i (omega (arith, length-map ds (slice t)))
+      ∙ slices-at t ds i h
+
+  -- all rules, where T is the block length
+  pub sa1-meets : t ≡ blockLengthOf ds → Meets (sa1 t m ds)
+  unfolding sa1
+  sa1-meets e =
+      record {
+        block-length = e;
+        slices-whole = sa1-whole;
+        in-order = sa1-in-order;
+        apart-in-row = sa1-apart-in-row;
+        not-joined = sa1-not-joined;
+        apart-of-duty = sa1-apart-of-duty;
+        sums-right = sa1-sums;
+      }

@@ -1,0 +1,53 @@
+-- `duty_good`: a duty record that is all there is good where its two fields are in range.
+-- Assumes nothing.
+use mathlib.Core.Path.{sym, _∙_}
+use Prim.Native.Nat.{_+_, _≤_}
+use native.Mathlib.Omega.{arith}
+use lib.ListN.{length}
+use borrow.Author.Tests.{not-true, not-false}
+use Rattle.paper.proofs.Passed.{standing}
+use Rattle.paper.specs.Bytes.{dutyGood}
+use borrow.Author.Needs.{needs}
+use Rattle.record_tests.proofs.duty_good.Statement.{statement}
+use Rattle.record_tests.proofs.duty_good.Tie as tie
+
+record-stands-requires : tie.Need-record-stands-requires
+record-stands-requires c κs = search needs
+
+returns : tie.Need-returns
+unfolding dutyGood
+returns c = rw (sym (c .before .record-stands .ensures) ∙ not-true _ (c .if1 .taken))
+
+-- the record is all there
+long : (c : tie.Else1) → c .before .before .before .args .at + 9 ≤ length (c .before .before .before .args .b .now)
+long c = standing _ _ 2 9 (sym (c .before .record-stands .ensures) ∙ not-false _ (c .if1 .left)) .room
+
+read-duty-requires : tie.Need-read-duty-requires
+read-duty-requires c κs = omega (arith, long c)
+
+is-within-requires : tie.Need-is-within-requires
+is-within-requires c κs = search needs
+
+is-within-requires-2 : tie.Need-is-within-requires-2
+is-within-requires-2 c κs = search needs
+
+returns-2 : tie.Need-returns-2
+unfolding dutyGood
+returns-2 c =
+    rw (
+      c .is-within2 .ensures,
+      c .before .is-within .ensures,
+      c .before .before .read-duty .ensures,
+      sym (c .before .before .before .before .record-stands .ensures) ∙ not-false _ (c .before .before .before .if1 .left),
+    )
+
+pub duty-good-spec : {M : Type 1} → statement M
+duty-good-spec =
+    tie.close
+    (tie.spec
+    record-stands-requires
+    returns
+    read-duty-requires
+    is-within-requires
+    is-within-requires-2
+    returns-2)

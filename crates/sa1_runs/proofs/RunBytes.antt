@@ -1,0 +1,61 @@
+-- The runs of a duty as bytes, by whether its slice stays in its row; how long they are; and the bytes that are left to write
+-- at duty i.
+-- Assumes nothing.
+use Prim.Native.Nat.{ℕ, _+_, _*_, _-_, _≤_, _<_}
+use mathlib.Core.Path.{_≡_, ap, _∙_}
+use mathlib.Core.List.{List, [], _∷_, _++_, append-nil}
+use lib.ListN.{length, drop}
+use borrow.Author.Tests.{le-leb, lt-leb}
+use Rattle.laws.specs.Lists.{flat}
+use Rattle.laws.proofs.Lists.{flat-append, flat-end, length-flat}
+use Rattle.paper.specs.declared.Duty.{Duty}
+use Rattle.paper.specs.declared.Run.{Run}
+use Rattle.paper.specs.Words.{run, slice, dutyAt}
+use Rattle.paper.specs.Sa1.{layOne, slices}
+use Rattle.paper.specs.Bytes.{small, runBytes, runLength}
+use Rattle.table_laws.proofs.Bytes.{length-run}
+use Rattle.sa1_runs.specs.declared.Place.{Place}
+use Rattle.sa1_runs.specs.Laying.{placeAfter, laidAt, laidFrom, runsAt}
+use Rattle.sa1_runs.proofs.Laying.{laid-length, lay-left, lay-none}
+use Rattle.sa1_runs.specs.RunBytes.{runsBytes}
+
+-- 11 for each run
+pub runs-bytes : (xs : List Run) → length (runsBytes xs) ≡ 11 * length xs
+runs-bytes xs = length-flat (runBytes small) (runLength small) (length-run small) xs
+
+-- one run where the units stay in the row, an exact fit among them; else two
+laid-whole : (t n i : ℕ) (p : Place) → p .unit + n ≤ t → laidAt t n i p ≡ run (p .row .0) i (p .unit) n ∷ []
+unfolding layOne
+laid-whole t n i p h = rw (le-leb (p .unit + n) t)
+
+laid-split :
+    (t n i : ℕ) (p : Place) → t < p .unit + n
+    → laidAt t n i p ≡ run (p .row .0) i (p .unit) (t - p .unit) ∷ run (p .row .0 + 1) i 0 (p .unit + n - t) ∷ []
+unfolding layOne
+laid-split t n i p h = rw (lt-leb (p .unit + n) t)
+
+-- the bytes of a duty's runs
+pub bytes-whole : (t n i : ℕ) (p : Place) → p .unit + n ≤ t → runsBytes (laidAt t n i p) ≡ runBytes small (run (p .row .0) i (p .unit) n)
+unfolding flat
+bytes-whole t n i p h = ap runsBytes (laid-whole t n i p h) ∙ append-nil (runBytes small (run (p .row .0) i (p .unit) n))
+
+pub bytes-split :
+    (t n i : ℕ) (p : Place) → t < p .unit + n
+    → runsBytes (laidAt t n i p)
+    ≡ runBytes small (run (p .row .0) i (p .unit) (t - p .unit)) ++ (runBytes small (run (p .row .0 + 1) i 0 (p .unit + n - t)) ++ [])
+unfolding flat
+bytes-split t n i p h = ap runsBytes (laid-split t n i p h)
+
+pub bytes-left :
+    (t n : ℕ) (ds : List Duty) (i : ℕ) (p q : Place) → i < length ds → n ≡ slice t (dutyAt ds i) → q ≡ placeAfter t n p
+    → runsBytes (laidFrom t (drop i (slices t ds)) i p) ≡ runsBytes (laidAt t n i p) ++ runsBytes (laidFrom t (drop (i + 1) (slices t ds)) (i + 1) q)
+bytes-left t n ds i p q h e f =
+    ap runsBytes (lay-left t n ds i p q h e f)
+    ∙ flat-append (runBytes small) (laidAt t n i p) (laidFrom t (drop (i + 1) (slices t ds)) (i + 1) q)
+
+pub bytes-none : (t : ℕ) (ds : List Duty) (i : ℕ) (p : Place) → length ds ≤ i → runsBytes (laidFrom t (drop i (slices t ds)) i p) ≡ []
+bytes-none t ds i p h = ap runsBytes (lay-none t ds i p h) ∙ flat-end (runBytes small)
+
+-- how many bytes they have
+pub bytes-length : (t n i : ℕ) (p : Place) → length (runsBytes (laidAt t n i p)) ≡ 11 * runsAt t n (p .unit)
+bytes-length t n i p = runs-bytes (laidAt t n i p) ∙ ap (λ (k : ℕ). 11 * k) (laid-length t n i p)

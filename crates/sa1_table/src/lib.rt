@@ -1,0 +1,75 @@
+// SA1's table as bytes: the head, the duties, the runs and the end, each record where the last one stopped.
+ghost use mathlib.Core.Path.{_≡_};
+ghost use Prim.Native.Nat.{_+_, _*_, _≤_};
+ghost use lib.ListN.{length};
+ghost use Rattle.laws.specs.Lists.{over, flat};
+ghost use Rattle.paper.specs.Sa1.{slices, sa1};
+ghost use Rattle.paper.specs.Bytes.{small, dutyBytes, encode};
+ghost use Rattle.paper.specs.Builder.{dutiesOf};
+ghost use Rattle.duty_lists.specs.Ready.{Paired, Ready};
+ghost use Rattle.sa1_runs.specs.Laying.{laidFrom, corner};
+ghost use Rattle.sa1_runs.specs.RunBytes.{runsBytes};
+use duty_lists::duty_at;
+use duty_lists::slice_at;
+use paper::Row;
+use record_write::put_duty;
+use record_write::put_end;
+use record_write::put_head;
+use sa1_runs::Place;
+use sa1_runs::after;
+use sa1_runs::put_duty_runs;
+
+// Writes the duties over the front of the lent rest.
+fn put_duties(out: &mut [u8], services: &[u32], periods: &[u32])
+    requires { ⌜ Paired (now services) (now periods) × (9 * length (now services) ≤ length (now out)) ⌝ }
+    ensures { λ r. ⌜ now (out .exit) ≡ over (flat dutyBytes (dutiesOf (now (services .entry)) (now (periods .entry)))) (now (out .entry)) ⌝ }
+{
+    let mut at = 0;
+    let mut i = 0;
+    while i < services.len() {
+        put_duty(&mut out[at..], duty_at(services, periods, i));
+        at += 9;
+        i += 1;
+    }
+}
+
+// Writes SA1's runs over the front of the lent rest, each duty's where the last one's stopped.
+fn put_runs(out: &mut [u8], t: u32, services: &[u32], periods: &[u32])
+    requires { ⌜ Ready t (now services) (now periods) × (11 * length (laidFrom t (slices t (dutiesOf (now services) (now periods))) 0 corner) ≤ length (now out)) ⌝ }
+    ensures { λ r. ⌜ now (out .exit) ≡ over (runsBytes (laidFrom t (slices t (dutiesOf (now (services .entry)) (now (periods .entry)))) 0 corner)) (now (out .entry)) ⌝ }
+{
+    let mut at = 0;
+    let mut place = Place {
+        row: Row(0),
+        unit: 0,
+    };
+    let mut i = 0;
+    while i < services.len() {
+        let n = slice_at(t, services, periods, i);
+        at += put_duty_runs(&mut out[at..], t, n, i as u32, place);
+        place = after(t, n, place);
+        i += 1;
+    }
+}
+
+// Writes SA1's table over the front of a buffer that has the room: head, duties, runs, end, each record where the last one
+// stopped. The block length is any in range.
+pub fn put_table(
+    out: &mut [u8],
+    t: u32,
+    engines: u32,
+    services: &[u32],
+    periods: &[u32],
+    runs: usize,
+)
+    requires { ⌜ Ready t (now services) (now periods) × (runs ≡ length (laidFrom t (slices t (dutiesOf (now services) (now periods))) 0 corner)) × (runs ≤ 2 * length (now services)) × (10 + 9 * length (now services) + 11 * runs ≤ length (now out)) ⌝ }
+    ensures { λ r. ⌜ now (out .exit) ≡ over (encode small (sa1 t engines (dutiesOf (now (services .entry)) (now (periods .entry))))) (now (out .entry)) ⌝ }
+{
+    let duties = services.len();
+    put_head(out, t, engines, duties as u32);
+    put_duties(&mut out[7..], services, periods);
+    let runs_start = 7 + 9 * duties;
+    put_runs(&mut out[runs_start..], t, services, periods);
+    let end = runs_start + 11 * runs;
+    put_end(&mut out[end..], runs as u32);
+}

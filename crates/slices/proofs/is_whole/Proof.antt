@@ -1,0 +1,22 @@
+-- `is_whole` tests what `whole` says, on the product that `scaled` gives.
+-- Assumes nothing.
+use borrow.Author.Needs.{needs}
+use Rattle.paper.specs.Words.{whole}
+use Rattle.slices.proofs.is_whole.Statement.{statement}
+use Rattle.slices.proofs.is_whole.Tie as tie
+
+scaled-requires : tie.Need-scaled-requires
+scaled-requires c κs = search needs
+
+cast-result : tie.Need-cast-result
+cast-result c = search needs
+
+rem-result : tie.Need-rem-result
+rem-result c = search needs
+
+returns : tie.Need-returns
+unfolding whole
+returns c = rw (c .before .scaled .ensures .0)
+
+pub is-whole-spec : {M : Type 1} → statement M
+is-whole-spec = tie.close (tie.spec scaled-requires cast-result rem-result returns)

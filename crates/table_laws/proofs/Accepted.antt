@@ -1,0 +1,148 @@
+-- A table is accepted exactly when it meets the plain statements of rules 11 to 17: the judge goes down the rules, so its answer is the
+-- table only if no rule's test finds a place, and then every rule's statement holds; and the converse.
+-- Assumes nothing.
+use Prim.Native.Nat.{ℕ, _≤_, _<_, _∣_}
+use mathlib.Core.Path.{_≡_, sym, ap, _∙_}
+use mathlib.Core.Bool.{true, false, not}
+use mathlib.Core.List.{List, map}
+use mathlib.Core.Logic.{_↔_}
+use native.Mathlib.Omega.{arith}
+use lib.Dec.{ltb, eqb}
+use lib.ListN.{length, length-map, List·getD-map}
+use borrow.Author.Tests.{eqb-true, eq-eqb, not-false}
+use Rattle.laws.proofs.Search.{none-clear, clear-none}
+use Rattle.laws.proofs.Decides.{eqb-decides, none-found}
+use Rattle.laws.proofs.Divisor.{gcdOf-divides}
+use Rattle.paper.specs.declared.Duty.{Duty}
+use Rattle.paper.specs.Words.{duty, slice, blockLengthOf, dutyAt, runAt, Table}
+use Rattle.paper.specs.Outcome.{answer}
+use Rattle.paper.specs.Bytes.{Width, small, parse}
+use Rattle.paper.specs.Builder.{badSlice}
+use Rattle.paper.specs.Rules.{unordered, overlaps, joins, twice, lowest, unitsOf, badSum, badOrder, judgeRuns, judgeTable, accepted}
+use Rattle.paper.specs.Statements.{Ranged, Meets}
+use Rattle.table_laws.proofs.Rules.{InOrder, ordered-clear, clear-ordered, lowest-none, none-lowest, overlaps-apart, apart-overlaps, joins-any, not-joins, twice-apart, apart-twice, whole-decides, Wholes}
+use Rattle.paper.proofs.Outcomes.{answer-one, then-answer, past}
+
+-- ---- the judge's way down the rules
+
+-- no rule's test finds a place
+pub record Passed (t : Table) : Type 0 where
+  pub block-length : eqb (t .ticks) (blockLengthOf (t .duties)) ≡ true
+  pub slices : ltb (badSlice (t .ticks) (t .duties)) (length (t .duties)) ≡ false
+  pub order : ltb (badOrder t) (length (t .runs)) ≡ false
+  pub overlap : ltb (lowest overlaps (t .runs)) (length (t .runs)) ≡ false
+  pub joint : ltb (lowest joins (t .runs)) (length (t .runs)) ≡ false
+  pub twofold : ltb (lowest twice (t .runs)) (length (t .runs)) ≡ false
+  pub sums : ltb (badSum t) (length (t .duties)) ≡ false
+
+judge-runs-passed : (t s : Table) → eqb (t .ticks) (blockLengthOf (t .duties)) ≡ true → ltb (badSlice (t .ticks) (t .duties)) (length (t .duties)) ≡ false → judgeRuns t ≡ answer s → Passed t × (s ≡ t)
+unfolding judgeRuns
+judge-runs-passed t s h11 h12 h =
+    let h13 = past (ltb (badOrder t) (length (t .runs))) 13 (badOrder t) _ s h in
+    let h14 = past (ltb (lowest overlaps (t .runs)) (length (t .runs))) 14 (lowest overlaps (t .runs)) _ s (h13 .1) in
+    let h15 = past (ltb (lowest joins (t .runs)) (length (t .runs))) 15 (lowest joins (t .runs)) _ s (h14 .1) in
+    let h16 = past (ltb (lowest twice (t .runs)) (length (t .runs))) 16 (lowest twice (t .runs)) _ s (h15 .1) in
+    let h17 = past (ltb (badSum t) (length (t .duties))) 17 (badSum t) _ s (h16 .1) in
+    (record { block-length = h11; slices = h12; order = h13 .0; overlap = h14 .0; joint = h15 .0; twofold = h16 .0; sums = h17 .0 }, sym (answer-one t s (h17 .1)))
+
+-- the judge answers nothing but the table itself, and that only where no test finds a place
+judge-passed : (t s : Table) → judgeTable t ≡ answer s → Passed t × (s ≡ t)
+unfolding judgeTable
+judge-passed t s h =
+    let h11 = past (not (eqb (t .ticks) (blockLengthOf (t .duties)))) 11 0 _ s h in
+    let h12 = past (ltb (badSlice (t .ticks) (t .duties)) (length (t .duties))) 12 (badSlice (t .ticks) (t .duties)) (judgeRuns t) s (h11 .1) in
+    judge-runs-passed t s (not-false (eqb (t .ticks) (blockLengthOf (t .duties))) (h11 .0)) (h12 .0) (h12 .1)
+
+pub judge-same : (t s : Table) → judgeTable t ≡ answer s → s ≡ t
+judge-same t s h = judge-passed t s h .1
+
+pub accepted-passed : (t : Table) → judgeTable t ≡ answer t → Passed t
+accepted-passed t h = judge-passed t t h .0
+
+pub passed-accepted : (t : Table) → Passed t → judgeTable t ≡ answer t
+unfolding judgeTable judgeRuns
+passed-accepted t p = rw (p .block-length, p .slices, p .order, p .overlap, p .joint, p .twofold, p .sums)
+
+-- ---- the tests and the statements
+
+-- every run has at least one unit
+abbrev pub Long : Table → Type 0
+Long t = (k : ℕ) → k < length (t .runs) → 1 ≤ runAt (t .runs) k .length
+
+pub ranged-long : {w : Width} {t : Table} → Ranged w t → Long t
+ranged-long r k h = r .run-ranged k h .some-units
+
+-- 12 and 17 are searches over the duties
+pub slices-met : (t : ℕ) (ds : List Duty) → (ltb (badSlice t ds) (length ds) ≡ false) ↔ Wholes t ds
+unfolding badSlice
+slices-met t ds = none-found (λ i. whole-decides t (dutyAt ds i)) (length ds)
+
+sums-met : (t : Table) → (ltb (badSum t) (length (t .duties)) ≡ false) ↔ ((i : ℕ) → i < length (t .duties) → unitsOf (t .runs) i ≡ slice (t .ticks) (dutyAt (t .duties) i))
+unfolding badSum
+sums-met t = none-found (λ i. eqb-decides (unitsOf (t .runs) i) (slice (t .ticks) (dutyAt (t .duties) i))) (length (t .duties))
+
+-- 13 is a search over the runs
+order-met : (t : Table) → (ltb (badOrder t) (length (t .runs)) ≡ false) ↔ InOrder (t .runs)
+unfolding badOrder
+order-met t = (
+  (λ h. ordered-clear (t .runs) (none-clear (unordered (t .runs)) (length (t .runs)) h)),
+  (λ o. clear-none (unordered (t .runs)) (length (t .runs)) (clear-ordered (t .runs) o)),
+)
+
+passed-meets : (t : Table) → Long t → Passed t → Meets t
+passed-meets t long p =
+    let xs = t .runs in
+    record {
+      block-length = eqb-true (t .ticks) (blockLengthOf (t .duties)) (p .block-length);
+      slices-whole = slices-met (t .ticks) (t .duties) .0 (p .slices);
+      in-order = order-met t .0 (p .order);
+      apart-in-row = λ j k l h. overlaps-apart (runAt xs j) (runAt xs k) (lowest-none overlaps xs (p .overlap) j k l h);
+      not-joined = joins-any xs (order-met t .0 (p .order)) long (lowest-none joins xs (p .joint));
+      apart-of-duty = λ j k l h. twice-apart (runAt xs j) (runAt xs k) (lowest-none twice xs (p .twofold) j k l h);
+      sums-right = sums-met t .0 (p .sums);
+    }
+
+meets-passed : (t : Table) → Long t → Meets t → Passed t
+meets-passed t long m =
+    let xs = t .runs in
+    record {
+      block-length = eq-eqb (t .ticks) (blockLengthOf (t .duties)) (m .block-length);
+      slices = slices-met (t .ticks) (t .duties) .1 (m .slices-whole);
+      order = order-met t .1 (m .in-order);
+      overlap = none-lowest overlaps xs (λ j k l h. apart-overlaps (runAt xs j) (runAt xs k) (long j (omega arith)) (long k h) (m .apart-in-row j k l h));
+      joint = none-lowest joins xs (λ j k l h. not-joins (runAt xs j) (runAt xs k) (m .not-joined j k (omega arith) h));
+      twofold = none-lowest twice xs (λ j k l h. apart-twice (runAt xs j) (runAt xs k) (long j (omega arith)) (long k h) (m .apart-of-duty j k l h));
+      sums = sums-met t .1 (m .sums-right);
+    }
+
+-- "A table that meets none of 10 to 17 is accepted", and no other is
+pub accepted-iff : (t : Table) → Long t → (judgeTable t ≡ answer t) ↔ Meets t
+accepted-iff t long = ((λ h. passed-meets t long (accepted-passed t h)), (λ m. passed-accepted t (meets-passed t long m)))
+
+-- ---- accepted bytes
+
+-- the table in accepted bytes is the one read, and it passed the judge
+pub accepted-read : (b : List ℕ) (t : Table) → accepted b ≡ answer t → (parse small b ≡ answer t) × (judgeTable t ≡ answer t)
+unfolding accepted
+accepted-read b t h =
+    let r = then-answer (parse small b) judgeTable t h in
+    let p = judge-same (r .0) t (r .2) in
+    (r .1 ∙ ap answer (sym p), ap judgeTable p ∙ r .2)
+
+pub read-accepted : (b : List ℕ) (t : Table) → parse small b ≡ answer t → judgeTable t ≡ answer t → accepted b ≡ answer t
+unfolding accepted
+read-accepted b t p q = rw p q
+
+-- ---- the block length
+
+-- it divides every period
+pub block-divides : (ds : List Duty) (i : ℕ) → i < length ds → blockLengthOf ds ∣ dutyAt ds i .period
+unfolding blockLengthOf
+block-divides ds i h =
+    let ps = map (λ (x : Duty). x .period) ds in
+    let d = gcdOf-divides ps i (rw (length-map ds (λ (x : Duty). x .period)) h) in
+    rw (List·getD-map (λ (x : Duty). x .period) ds i (duty 0 0)) at d
+
+-- so T does. What is proved of accepted tables uses this alone of rule 11
+pub ticks-divides : (t : Table) → Meets t → (i : ℕ) → i < length (t .duties) → t .ticks ∣ dutyAt (t .duties) i .period
+ticks-divides t m i h = rw (m .block-length) (block-divides (t .duties) i h)

@@ -1,1 +1,0 @@
-// No code: this crate holds what follows from the definitions of `paper`, the demands among it.
