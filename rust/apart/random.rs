@@ -14,17 +14,17 @@ impl Random {
         self.0.wrapping_mul(0x2545_f491_4f6c_dd1d)
     }
 
-    /// A number below n.
+    /// A number below n, which is at least 1.
     pub fn below(&mut self, n: u64) -> u64 {
         (self.next() >> 11) % n
     }
 
-    /// A number from low to high, both among them.
+    /// A number from low to high, both among them; low is at most high, and the two are not 0 and 2^64 - 1.
     pub fn between(&mut self, low: u64, high: u64) -> u64 {
         low + self.below(high - low + 1)
     }
 
-    /// True once in n times.
+    /// True once in n times, n at least 1.
     pub fn once_in(&mut self, n: u64) -> bool {
         self.below(n) == 0
     }

@@ -10,7 +10,8 @@ pub struct Set {
     pub periods: Vec<u32>,
 }
 
-/// A set with whole slices whose sum is at most, or seldom above, what the engines have.
+/// A set with whole slices whose sum is at most, or seldom above, what the engines have; `most_ticks` is from 1 to
+/// 1,000,000.
 pub fn whole_set(random: &mut Random, most_ticks: u64) -> Set {
     let ticks = random.between(1, most_ticks);
     let engines = random.between(1, 32);
@@ -83,8 +84,12 @@ pub fn chained_set(random: &mut Random) -> Set {
 }
 
 /// Changes bytes of a table: fields of a record set to other values, records swapped or doubled, cuts and additions.
+/// It takes any bytes, since each change works on what the one before has left. Where there are none it leaves none.
 pub fn patch(random: &mut Random, table: &[u8]) -> Vec<u8> {
     let mut b = table.to_vec();
+    if b.is_empty() {
+        return b;
+    }
     for _ in 0..random.between(1, 3) {
         let at = random.below(b.len() as u64) as usize;
         match random.below(9) {
@@ -100,7 +105,12 @@ pub fn patch(random: &mut Random, table: &[u8]) -> Vec<u8> {
     b
 }
 
-/// Changes one run, or two, of a table that still has its form.
+/// A row or duty for a run to name, out of as many as the head tells of. A patched head may tell of none: then it is 0.
+fn one_of(random: &mut Random, told: u8) -> u8 {
+    random.below(told.max(1) as u64) as u8
+}
+
+/// Changes one run, or two, of a table whose records can still be found; the head may say anything.
 pub fn patch_run(random: &mut Random, b: &mut Vec<u8>) {
     let Some(runs) = run_places(b) else { return };
     if runs.is_empty() {
@@ -109,8 +119,8 @@ pub fn patch_run(random: &mut Random, b: &mut Vec<u8>) {
     let k = random.below(runs.len() as u64) as usize;
     let at = runs[k];
     match random.below(8) {
-        0 => b[at + 1] = random.below(b[5] as u64) as u8,
-        1 => b[at + 2] = random.below(b[6] as u64) as u8,
+        0 => b[at + 1] = one_of(random, b[5]),
+        1 => b[at + 2] = one_of(random, b[6]),
         2 => b[at + 3] = b[at + 3].wrapping_add(1),
         3 => b[at + 7] = b[at + 7].wrapping_sub(1),
         4 if k > 0 => {
@@ -127,7 +137,7 @@ pub fn patch_run(random: &mut Random, b: &mut Vec<u8>) {
             second[3] = second[3].wrapping_add(cut);
             b[at + 7] = cut;
             if random.once_in(2) {
-                second[1] = random.below(b[5] as u64) as u8;
+                second[1] = one_of(random, b[5]);
             }
             b.splice(at + 11..at + 11, second);
             let end = b.len() - 2;
