@@ -1,12 +1,12 @@
 -- A Bool, a test or an order taken apart, with what is then known.
 -- Assumes nothing.
 use Prim.Native.Nat.{ℕ, _≤_, _<_}
-use mathlib.Core.Path.{_≡_, refl, sym, _∙_}
+use mathlib.Core.Path.{_≡_, refl, sym}
 use mathlib.Core.Bool.{Bool, true, false, _&&_}
 use native.Mathlib.Nat.{le-antisymm}
 use native.Mathlib.Omega.{arith}
 use lib.Dec.{ltb, eqb}
-use borrow.Author.Tests.{ltb-true, ltb-false, eqb-true, eqb-false, eq-eqb, ne-eqb}
+use borrow.Author.Tests.{ltb-true, ltb-false, eqb-true, eq-eqb}
 
 -- a Bool with its equation
 pub by-cases : {P : Type 0} (b : Bool) → (b ≡ true → P) → (b ≡ false → P) → P
@@ -42,7 +42,11 @@ and-right false b h = not-both h refl
 pub and-both : (a b : Bool) → a ≡ true → b ≡ true → a && b ≡ true
 and-both a b p q = rw (p, q)
 
+-- tests that each hold where the other does are one
+pub both-ways : (a b : Bool) → (a ≡ true → b ≡ true) → (b ≡ true → a ≡ true) → a ≡ b
+both-ways true b f g = sym (f refl)
+both-ways false b f g = sym (refuted b (λ p. not-both (g p) refl))
+
 -- the test of an equation is that of the equation turned round
 pub eqb-sym : (i j : ℕ) → eqb i j ≡ eqb j i
-eqb-sym i j =
-    by-cases (eqb i j) (λ p. p ∙ sym (eq-eqb j i (sym (eqb-true i j p)))) (λ p. p ∙ sym (ne-eqb j i (λ q. eqb-false i j p (sym q))))
+eqb-sym i j = both-ways (eqb i j) (eqb j i) (λ p. eq-eqb j i (sym (eqb-true i j p))) (λ p. eq-eqb i j (sym (eqb-true j i p)))

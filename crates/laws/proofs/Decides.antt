@@ -1,14 +1,14 @@
 -- A test that decides a condition holds where the condition does and fails where it does not. A search for the lowest number that fails
 -- the test then finds the lowest without the condition, or none where all have it.
 -- Assumes nothing.
-use Prim.Native.Nat.{ℕ, _<_}
+use Prim.Native.Nat.{ℕ, _+_, _≤_, _<_}
 use mathlib.Core.Path.{_≡_, ap}
-use mathlib.Core.Bool.{Bool, true, false, not}
+use mathlib.Core.Bool.{Bool, true, false, not, _&&_}
 use mathlib.Core.Logic.{_↔_}
-use lib.Dec.{ltb, eqb}
-use borrow.Author.Tests.{ltb-true, eqb-true, eq-eqb, not-true, not-false}
+use lib.Dec.{leb, ltb, eqb}
+use borrow.Author.Tests.{leb-true, ltb-true, eqb-true, le-leb, lt-ltb, eq-eqb, not-true, not-false}
 use Rattle.laws.specs.Search.{first}
-use Rattle.laws.proofs.Cases.{not-both, refuted}
+use Rattle.laws.proofs.Cases.{not-both, refuted, and-left, and-right, and-both}
 use Rattle.laws.proofs.Search.{first-is, first-clear, first-holds, none-clear, clear-none}
 
 -- the test holds exactly where P does
@@ -30,6 +30,19 @@ failed b d n = refuted b (λ h. n (d .0 h))
 -- the test of an equation
 pub eqb-decides : (a b : ℕ) → Decides (eqb a b) (a ≡ b)
 eqb-decides a b = (eqb-true a b, eq-eqb a b)
+
+-- the stretch of l places from a on has the place u
+abbrev pub spans : (a l u : ℕ) → Bool
+spans a l u = leb a u && ltb u (a + l)
+
+pub spans-decides : (a l u : ℕ) → Decides (spans a l u) ((a ≤ u) × (u < a + l))
+spans-decides a l u = (
+  (λ h. (leb-true a u (and-left (leb a u) (ltb u (a + l)) h), ltb-true u (a + l) (and-right (leb a u) (ltb u (a + l)) h))),
+  (λ h. and-both (leb a u) (ltb u (a + l)) (le-leb a u (h .0)) (lt-ltb u (a + l) (h .1))),
+)
+
+pub spans-not : (a l u : ℕ) → Not ((a ≤ u) × (u < a + l)) → spans a l u ≡ false
+spans-not a l u n = failed (spans a l u) (spans-decides a l u) n
 
 -- p is the lowest of the numbers below n that has not P
 abbrev pub Lowest : (ℕ → Type 0) → ℕ → ℕ → Type 0

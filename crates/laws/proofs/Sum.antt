@@ -3,15 +3,16 @@
 -- Assumes nothing.
 use Prim.Native.Nat.{ℕ, zero, suc, _+_, _*_, _-_, _≤_, _<_}
 use mathlib.Core.Path.{_≡_, refl, sym, ap, _∙_}
-use mathlib.Core.Bool.{_&&_}
+use mathlib.Core.Bool.{Bool, true, _&&_}
 use native.Mathlib.Nat.{not-suc-le-zero, add-suc, add-zero, suc-mul, zero-mul, mul-zero}
 use native.Mathlib.Numerals.{add-one}
 use native.Mathlib.Omega.{arith}
-use lib.Dec.{leb, ltb, eqb}
-use borrow.Author.Tests.{eq-eqb, ne-eqb, le-leb, lt-leb, lt-ltb, le-ltb}
+use lib.Dec.{eqb}
+use borrow.Author.Tests.{eq-eqb, ne-eqb}
 use Rattle.laws.specs.Choice.{one-if}
 use Rattle.laws.specs.Sum.{sumTo}
-use Rattle.laws.proofs.Cases.{lt-or-le}
+use Rattle.laws.proofs.Cases.{by-cases, lt-or-le, refuted}
+use Rattle.laws.proofs.Decides.{spans, spans-decides, spans-not}
 
 -- the empty sum, and one summand more
 pub sum-none : (f : ℕ → ℕ) → sumTo 0 f ≡ 0
@@ -89,34 +90,31 @@ sum-only (suc n) i f h e =
     (λ l. let p : n ≡ i = omega arith in
     omega (arith, sum-suc n f, ap f p, sum-zero n f (λ k m. e k (omega arith) (λ q. omega arith))))
 
--- 1 inside a stretch, 0 before and after it
-abbrev in-stretch : (a l u : ℕ) → ℕ
-in-stretch a l u = one-if (leb a u && ltb u (a + l))
-
-in-stretch-before : (a l u : ℕ) → u < a → in-stretch a l u ≡ 0
-in-stretch-before a l u h = rw (lt-leb a u)
-
-in-stretch-inside : (a l u : ℕ) → a ≤ u → u < a + l → in-stretch a l u ≡ 1
-in-stretch-inside a l u h k = rw (le-leb a u, lt-ltb u (a + l))
-
-in-stretch-after : (a l u : ℕ) → a + l ≤ u → in-stretch a l u ≡ 0
-in-stretch-after a l u h = rw (le-leb a u (omega arith), le-ltb u (a + l))
+-- where no two of n tests hold, at most one counts
+pub count-once : (n : ℕ) (f : ℕ → Bool) → ((j k : ℕ) → j < k → k < n → f j ≡ true → f k ≡ true → ⊥) → sumTo n (λ k. one-if (f k)) ≤ 1
+count-once zero f a = omega (arith, sum-none (λ k. one-if (f k)))
+count-once (suc n) f a =
+    let c : ℕ → ℕ = λ k. one-if (f k) in
+    by-cases (f n)
+    (λ p. omega (arith, sum-suc n c, ap one-if p, sum-zero n c (λ k l. ap one-if (refuted (f k) (λ q. a k n l (omega arith) q p)))))
+    (λ p. omega (arith, sum-suc n c, ap one-if p, count-once n f (λ j k l h. a j k l (omega arith))))
 
 -- a stretch of l units from a on, with r units after it, has l units
-stretch : (a l r : ℕ) → sumTo (a + (l + r)) (in-stretch a l) ≡ l
+stretch : (a l r : ℕ) → sumTo (a + (l + r)) (λ u. one-if (spans a l u)) ≡ l
 stretch a l r =
+    let has : ℕ → ℕ = λ u. one-if (spans a l u) in
     omega (
       arith,
-      sum-split a (l + r) (in-stretch a l),
-      sum-split l r (λ j. in-stretch a l (a + j)),
-      sum-zero a (in-stretch a l) (λ u h. in-stretch-before a l u h),
-      sum-ext l (λ j. in-stretch a l (a + j)) (λ j. 1) (λ j h. in-stretch-inside a l (a + j) (omega arith) (omega arith)),
+      sum-split a (l + r) has,
+      sum-split l r (λ j. has (a + j)),
+      sum-zero a has (λ u h. ap one-if (spans-not a l u (λ k. omega arith))),
+      sum-ext l (λ j. has (a + j)) (λ j. 1) (λ j h. ap one-if (spans-decides a l (a + j) .1 (omega arith))),
       sum-const l 1,
-      sum-zero r (λ j. in-stretch a l (a + (l + j))) (λ j h. in-stretch-after a l (a + (l + j)) (omega arith)),
+      sum-zero r (λ j. has (a + (l + j))) (λ j h. ap one-if (spans-not a l (a + (l + j)) (λ k. omega arith))),
     )
 
 -- a stretch of l units from a on, that ends by t, has l of the t units
-pub count-stretch : (t a l : ℕ) → a + l ≤ t → sumTo t (λ u. one-if (leb a u && ltb u (a + l))) ≡ l
+pub count-stretch : (t a l : ℕ) → a + l ≤ t → sumTo t (λ u. one-if (spans a l u)) ≡ l
 count-stretch t a l h = let p : t ≡ a + (l + (t - (a + l))) = omega arith in rw p (stretch a l (t - (a + l)))
 
 -- of the cells of an m by t table one is the cell (i, j)

@@ -1,7 +1,8 @@
--- Plans: SA1's runs, each duty's share of them, the table that they make; when the builder plans and when it refuses, what it plans; and
+-- Plans: SA1's runs, each duty's share of them, the line on which they lie, the table that they make; when the builder plans and when it refuses, what it plans; and
 -- which numbers and places each call refuses with.
 pub mod Sa1
 pub mod Sa1Shares
+pub mod Line
 pub mod Sa1Table
 pub mod PlanWhen
 pub mod Planned
