@@ -37,6 +37,12 @@ unfolding sumTo
 sum-ext zero f g e = refl
 sum-ext (suc n) f g e = omega (arith, sum-ext n f g (λ k h. e k (omega arith)), e n (omega arith))
 
+-- and no larger ones no larger sums
+pub sum-le : (n : ℕ) (f g : ℕ → ℕ) → ((k : ℕ) → k < n → f k ≤ g k) → sumTo n f ≤ sumTo n g
+unfolding sumTo
+sum-le zero f g e = omega arith
+sum-le (suc n) f g e = omega (arith, sum-le n f g (λ k h. e k (omega arith)), e n (omega arith))
+
 -- the sum of sums
 pub sum-plus : (n : ℕ) (f g : ℕ → ℕ) → sumTo n (λ k. f k + g k) ≡ sumTo n f + sumTo n g
 unfolding sumTo

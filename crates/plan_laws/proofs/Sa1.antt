@@ -81,12 +81,6 @@ follows t (n ∷ ns) i r u a h =
     ahead : (r₁ u₁ l r′ u′ : ℕ) → u′ < t → r₁ * t + u₁ + l ≤ r′ * t + u′ → Each (Follows t (run r₁ i u₁ l)) (lay t ns (i + 1) r′ u′)
     ahead r₁ u₁ l r′ u′ c e = each-map (Of t ns (i + 1) r′ u′) (Follows t (run r₁ i u₁ l)) (λ x k. record { after = omega arith; split = λ s. omega arith }) (lay t ns (i + 1) r′ u′) (laid-between t ns (i + 1) r′ u′ c (h .1))
 
--- where the slices fit m rows, every run's row is below m
-pub rows-below :
-    (t m : ℕ) (ns : List ℕ) (i r u : ℕ) → u < t → Each (Slice t) ns → r * t + u + sumOf ns ≤ m * t → Each (λ x. x .row .0 < m) (lay t ns i r u)
-rows-below t m ns i r u a h fit =
-    each-map (Of t ns i r u) (λ x. x .row .0 < m) (λ x l. lt-of-mul-lt-mul-right t (omega arith)) (lay t ns i r u) (laid-between t ns i r u a h)
-
 -- at most one run more than duties for each row but the first
 pub few-runs :
     (t m : ℕ) (ns : List ℕ) (i r u : ℕ) → u < t → Each (Slice t) ns → 1 ≤ length ns → r * t + u + sumOf ns ≤ m * t

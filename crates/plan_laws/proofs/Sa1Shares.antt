@@ -1,132 +1,86 @@
--- Each duty's share of SA1's runs: its runs add up to its slice, it has one run or, where it is split, two, and fewer
--- duties are split than there are rows. The later duties' runs carry higher numbers, so a duty's share is what is laid
--- at its own step.
+-- Each duty's share of SA1's runs: its runs add up to its slice, and fewer duties are split than there are rows. At a duty's
+-- own step its slice is laid, in one run or in two, and at any other step nothing of it, wherever that step begins. And since
+-- a duty has a run, there is one run more than duties at least for each that is split.
 -- Assumes nothing.
 use Prim.Native.Nat.{ℕ, zero, suc, _+_, _*_, _-_, _≤_, _<_}
 use mathlib.Core.Path.{_≡_, refl, sym, ap, _∙_}
 use mathlib.Core.Bool.{Bool}
 use mathlib.Core.List.{List, [], _∷_}
-use native.Mathlib.Nat.{add-zero, zero-add, not-suc-le-zero, le-of-suc-le-suc}
+use native.Mathlib.Nat.{zero-add}
 use native.Mathlib.Omega.{arith}
 use lib.Dec.{ltb, eqb}
 use lib.ListN.{length, getD}
-use borrow.Author.Tests.{eq-eqb, ne-eqb}
+use borrow.Author.Tests.{ltb-true, eq-eqb, ne-eqb}
 use Rattle.laws.specs.Choice.{pick, one-if}
 use Rattle.laws.specs.Lists.{sumOf}
 use Rattle.laws.specs.Sum.{sumTo}
-use Rattle.laws.proofs.Sum.{sum-none, sum-first, sum-ext}
-use Rattle.laws.proofs.Each.{Each, each-map}
+use Rattle.laws.proofs.Cases.{by-cases}
+use Rattle.laws.proofs.Sum.{sum-le, sum-plus, sum-const, sum-zero, sum-only}
+use Rattle.laws.proofs.Each.{Each, each-at, each-map}
 use Rattle.paper.specs.declared.Run.{Run}
-use Rattle.paper.specs.Words.{run}
 use Rattle.paper.specs.Sa1.{lay}
 use Rattle.paper.specs.Rules.{unitsOf}
 use Rattle.plan_laws.proofs.Sa1.{Slice, Of, lay-cases, laid-between, few-runs}
 
--- what the runs of duty i add up to, where run x counts f x
-unfoldable pub shareOf : (Run → ℕ) → List Run → ℕ → ℕ
-shareOf f [] i = zero
-shareOf f (x ∷ xs) i = pick (eqb (x .duty) i) (f x) 0 + shareOf f xs i
+-- ---- units
 
--- its units, where a run counts its length
-units-share : (xs : List Run) (i : ℕ) → unitsOf xs i ≡ shareOf (λ x. x .length) xs i
-unfolding unitsOf shareOf
-units-share [] i = refl
-units-share (x ∷ xs) i = ap (λ n. pick (eqb (x .duty) i) (x .length) 0 + n) (units-share xs i)
+-- duty i's step adds its slice to i's units and nothing to another's
+units-step :
+    (t n : ℕ) (ns : List ℕ) (i r u j s : ℕ) → u < t → n ≤ t → ((r′ u′ : ℕ) → u′ < t → unitsOf (lay t ns (i + 1) r′ u′) j ≡ s)
+    → unitsOf (lay t (n ∷ ns) i r u) j ≡ pick (eqb i j) n 0 + s
+unfolding unitsOf
+units-step t n ns i r u j s a b later =
+    lay-cases t n ns i r u a b (λ xs. unitsOf xs j ≡ pick (eqb i j) n 0 + s)
+    (λ r′ u′ f e c d. ap (λ (k : ℕ). pick (eqb i j) n 0 + k) (later r′ u′ c))
+    (λ u′ e c d.
+    by-cases (eqb i j) (λ p. rw p (omega (arith, later (r + 1) u′ c))) (λ p. rw p (omega (arith, later (r + 1) u′ c))))
 
--- how many they are, where a run counts 1
-abbrev pub runsOf : List Run → ℕ → ℕ
-runsOf xs i = shareOf (λ x. 1) xs i
-
--- a run of the duty counts
-share-own : (f : Run → ℕ) (x : Run) (xs : List Run) (i : ℕ) → x .duty ≡ i → shareOf f (x ∷ xs) i ≡ f x + shareOf f xs i
-unfolding shareOf
-share-own f x xs i e = rw (eq-eqb (x .duty) i e)
-
--- a run of another does not
-share-other : (f : Run → ℕ) (x : Run) (xs : List Run) (i : ℕ) → (x .duty ≡ i → ⊥) → shareOf f (x ∷ xs) i ≡ shareOf f xs i
-unfolding shareOf
-share-other f x xs i e = rw (ne-eqb (x .duty) i e) (omega arith)
-
--- so runs of other duties count nothing
-share-none : (f : Run → ℕ) (xs : List Run) (i : ℕ) → Each (λ x. x .duty ≡ i → ⊥) xs → shareOf f xs i ≡ 0
-unfolding shareOf
-share-none f [] i h = refl
-share-none f (x ∷ xs) i h = share-other f x xs i (h .0) ∙ share-none f xs i (h .1)
-
--- what is laid for the duties after i is none of i's
-share-later : (f : Run → ℕ) (t : ℕ) (ns : List ℕ) (i r u : ℕ) → u < t → Each (Slice t) ns → shareOf f (lay t ns (i + 1) r u) i ≡ 0
-share-later f t ns i r u a h =
-    share-none f (lay t ns (i + 1) r u) i
-    (each-map (Of t ns (i + 1) r u) (λ x. x .duty ≡ i → ⊥) (λ x l e. omega arith) (lay t ns (i + 1) r u) (laid-between t ns (i + 1) r u a h))
-
--- duty i + (k + 1) is the one k after i + 1
-next : (i k : ℕ) → i + 1 + k ≡ i + suc k
-next i k = omega arith
+-- what is laid for the duties from i on is none of an earlier duty's
+units-earlier : (t : ℕ) (ns : List ℕ) (i r u j : ℕ) → u < t → Each (Slice t) ns → j < i → unitsOf (lay t ns i r u) j ≡ 0
+unfolding lay unitsOf
+units-earlier t [] i r u j a h l = refl
+units-earlier t (n ∷ ns) i r u j a h l =
+    units-step t n ns i r u j 0 a (h .0 .1) (λ r′ u′ b. units-earlier t ns (i + 1) r′ u′ j b (h .1) (omega arith))
+    ∙ rw (ne-eqb i j (λ e. omega arith))
 
 -- each duty's runs add up to its slice
-lengths-laid :
-    (t : ℕ) (ns : List ℕ) (i r u : ℕ) → u < t → Each (Slice t) ns → (k : ℕ) → k < length ns
-    → shareOf (λ x. x .length) (lay t ns i r u) (i + k) ≡ getD ns k 0
-lengths-laid t [] i r u a h k l = absurd (not-suc-le-zero l)
-lengths-laid t (n ∷ ns) i r u a h zero l =
-    let f : Run → ℕ = λ x. x .length in
-    rw add-zero
-    (lay-cases t n ns i r u a (h .0 .1) (λ xs. shareOf f xs i ≡ n)
-    (λ r′ u′ b e c d. share-own f _ _ i refl ∙ omega (arith, share-later f t ns i r′ u′ c (h .1)))
-    (λ u′ e c d. share-own f _ _ i refl ∙ omega (arith, share-own f (run (r + 1) i 0 u′) (lay t ns (i + 1) (r + 1) u′) i refl, share-later f t ns i (r + 1) u′ c (h .1))))
-lengths-laid t (n ∷ ns) i r u a h (suc k) l =
-    let f : Run → ℕ = λ x. x .length in
-    rw (sym (next i k))
-    (lay-cases t n ns i r u a (h .0 .1) (λ xs. shareOf f xs (i + 1 + k) ≡ getD ns k 0)
-    (λ r′ u′ b e c d. share-other f _ _ (i + 1 + k) (λ p. omega arith) ∙ lengths-laid t ns (i + 1) r′ u′ c (h .1) k (le-of-suc-le-suc l))
-    (λ u′ e c d. share-other f _ _ (i + 1 + k) (λ p. omega arith) ∙ share-other f _ _ (i + 1 + k) (λ p. omega arith)
-    ∙ lengths-laid t ns (i + 1) (r + 1) u′ c (h .1) k (le-of-suc-le-suc l)))
+pub units-laid :
+    (t : ℕ) (ns : List ℕ) (i r u k j : ℕ) → u < t → Each (Slice t) ns → i + k ≡ j → unitsOf (lay t ns i r u) j ≡ getD ns k 0
+unfolding lay unitsOf
+units-laid t [] i r u k j a h q = refl
+units-laid t (n ∷ ns) i r u zero j a h q =
+    units-step t n ns i r u j 0 a (h .0 .1) (λ r′ u′ b. units-earlier t ns (i + 1) r′ u′ j b (h .1) (omega arith))
+    ∙ rw (eq-eqb i j (omega arith)) (omega arith)
+units-laid t (n ∷ ns) i r u (suc k) j a h q =
+    units-step t n ns i r u j (getD ns k 0) a (h .0 .1) (λ r′ u′ b. units-laid t ns (i + 1) r′ u′ k j b (h .1) (omega arith))
+    ∙ rw (ne-eqb i j (λ e. omega arith)) (omega arith)
 
-pub units-laid : (t : ℕ) (ns : List ℕ) (i r u : ℕ) → u < t → Each (Slice t) ns → (k : ℕ) → k < length ns → unitsOf (lay t ns i r u) (i + k) ≡ getD ns k 0
-units-laid t ns i r u a h k l = units-share (lay t ns i r u) (i + k) ∙ lengths-laid t ns i r u a h k l
+-- ---- splits
 
--- the duty is split: it has more than one run
+-- how many runs duty i has
+unfoldable pub runsOf : List Run → ℕ → ℕ
+runsOf [] i = zero
+runsOf (x ∷ xs) i = one-if (eqb (x .duty) i) + runsOf xs i
+
+-- the duty is split: it has more than one
 abbrev pub isSplit : List Run → ℕ → Bool
 isSplit xs i = ltb 1 (runsOf xs i)
 
--- of the duties from i on, i is split where it has more than one run, and the others where they are in the later runs
-splits-step :
-    (xs later : List Run) (i n c : ℕ) → runsOf xs i ≡ c → ((j : ℕ) → i < j → runsOf xs j ≡ runsOf later j)
-    → sumTo (suc n) (λ k. one-if (isSplit xs (i + k))) ≡ one-if (ltb 1 c) + sumTo n (λ k. one-if (isSplit later (i + 1 + k)))
-splits-step xs later i n c own others =
-    sum-first n (λ k. one-if (isSplit xs (i + k)))
-    ∙ rw (add-zero, own) (ap (λ (s : ℕ). one-if (ltb 1 c) + s)
-    (sum-ext n (λ k. one-if (isSplit xs (i + suc k))) (λ k. one-if (isSplit later (i + 1 + k)))
-    (λ k h. rw (← next i k, others (i + 1 + k) (omega arith)))))
+-- a duty with a unit has a run
+runs-least : (xs : List Run) (i : ℕ) → 1 ≤ unitsOf xs i → 1 ≤ runsOf xs i
+unfolding unitsOf runsOf
+runs-least [] i h = h
+runs-least (x ∷ xs) i h =
+    by-cases (eqb (x .duty) i) (λ p. rw p (omega arith)) (λ p. rw p (omega (arith, runs-least xs i (rw (p, zero-add) at h))))
 
--- there is one run for each duty, and one more for each that is split
-pub splits-laid :
-    (t : ℕ) (ns : List ℕ) (i r u : ℕ) → u < t → Each (Slice t) ns
-    → length (lay t ns i r u) ≡ length ns + sumTo (length ns) (λ k. one-if (isSplit (lay t ns i r u) (i + k)))
-unfolding lay
-splits-laid t [] i r u a h = omega (arith, sum-none (λ k. one-if (isSplit [] (i + k))))
-splits-laid t (n ∷ ns) i r u a h =
-    lay-cases t n ns i r u a (h .0 .1) (λ xs. length xs ≡ suc (length ns) + sumTo (suc (length ns)) (λ k. one-if (isSplit xs (i + k))))
-    (λ r′ u′ b e c d.
-    let x = run r i u n in
-    let later = lay t ns (i + 1) r′ u′ in
-    omega (
-      arith,
-      splits-laid t ns (i + 1) r′ u′ c (h .1),
-      splits-step (x ∷ later) later i (length ns) 1 (share-own (λ x. 1) x later i refl ∙ omega (arith, share-later (λ x. 1) t ns i r′ u′ c (h .1)))
-          (λ j l. share-other (λ x. 1) x later j (λ p. omega arith)),
-    ))
-    (λ u′ e c d.
-    let x = run r i u (t - u) in
-    let y = run (r + 1) i 0 u′ in
-    let later = lay t ns (i + 1) (r + 1) u′ in
-    omega (
-      arith,
-      splits-laid t ns (i + 1) (r + 1) u′ c (h .1),
-      splits-step (x ∷ y ∷ later) later i (length ns) 2
-          (share-own (λ x. 1) x (y ∷ later) i refl ∙ omega (arith, share-own (λ x. 1) y later i refl, share-later (λ x. 1) t ns i (r + 1) u′ c (h .1)))
-          (λ j l. share-other (λ x. 1) x (y ∷ later) j (λ p. omega arith) ∙ share-other (λ x. 1) y later j (λ p. omega arith)),
-    ))
+-- the runs of the duties below n are all runs
+runs-counted : (n : ℕ) (xs : List Run) → Each (λ x. x .duty < n) xs → sumTo n (runsOf xs) ≡ length xs
+unfolding runsOf
+runs-counted n [] h = sum-zero n (λ i. 0) (λ i l. refl)
+runs-counted n (x ∷ xs) h =
+    let own : ℕ → ℕ = λ i. one-if (eqb (x .duty) i) in
+    let one = sum-only n (x .duty) own (h .0) (λ i l d. ap one-if (ne-eqb (x .duty) i (λ e. d (sym e)))) in
+    sum-plus n own (runsOf xs) ∙ omega (arith, one, ap one-if (eq-eqb (x .duty) (x .duty) refl), runs-counted n xs (h .1))
 
 -- fewer duties are split than there are rows
 pub few-splits :
@@ -136,6 +90,16 @@ few-splits t m ns a h s fit =
     omega (
       arith,
       few-runs t m ns 0 0 0 a h s (omega arith),
-      splits-laid t ns 0 0 0 a h,
-      sum-ext (length ns) (λ i. one-if (isSplit (lay t ns 0 0 0) (0 + i))) (λ i. one-if (isSplit (lay t ns 0 0 0) i)) (λ i l. rw zero-add),
+      runs-counted (length ns) xs (each-map (Of t ns 0 0 0) (λ x. x .duty < length ns) (λ x l. omega arith) xs (laid-between t ns 0 0 0 a h)),
+      sum-le (length ns) (λ i. 1 + one-if (isSplit xs i)) (runsOf xs) split,
+      sum-plus (length ns) (λ i. 1) (λ i. one-if (isSplit xs i)),
+      sum-const (length ns) 1,
     )
+  where
+    xs : List Run
+    xs = lay t ns 0 0 0
+
+    split : (i : ℕ) → i < length ns → 1 + one-if (isSplit xs i) ≤ runsOf xs i
+    split i l =
+        let some = runs-least xs i (rw (units-laid t ns 0 0 0 i i a h (zero-add i)) (each-at (Slice t) 0 ns h i l .0)) in
+        by-cases (isSplit xs i) (λ p. rw p (ltb-true 1 (runsOf xs i) p)) (λ p. rw p some)

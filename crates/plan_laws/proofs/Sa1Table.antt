@@ -1,14 +1,14 @@
 -- SA1's table is in form and meets the rules, where the duties are in range, their slices whole and the slices fit the
--- engines. Rules 12 to 17 need nothing of T but that the slices are whole, so each has a lemma of its own; that T is the
+-- engines. Rule 12 is that they are whole; 13 to 17 need nothing more of T, so each has a lemma of its own; that T is the
 -- block length goes into rule 11 alone.
 -- Assumes nothing.
-use Prim.Native.Nat.{ℕ, zero, suc, _+_, _*_, _≤_, _<_, _∣_}
-use mathlib.Core.Path.{_≡_, refl, sym, ap, _∙_}
+use Prim.Native.Nat.{ℕ, _+_, _*_, _≤_, _<_, _∣_}
+use mathlib.Core.Path.{_≡_, sym, ap, _∙_}
 use mathlib.Core.Bool.{true}
-use mathlib.Core.List.{List, [], _∷_}
-use native.Mathlib.Nat.{not-suc-le-zero, le-of-suc-le-suc, le-div-iff-mul-le, div-le-of-le-mul, le-of-dvd, mul-pos, mul-le-mul-left, lt-of-mul-lt-mul-right, zero-add}
+use mathlib.Core.List.{List}
+use native.Mathlib.Nat.{le-div-iff-mul-le, div-le-of-le-mul, le-of-dvd, mul-pos, mul-le-mul-left, lt-of-mul-lt-mul-right, mul-zero, zero-add}
 use native.Mathlib.Omega.{arith}
-use lib.ListN.{length, getD, length-map}
+use lib.ListN.{length, getD, length-map, List·getD-map}
 use Rattle.laws.specs.Choice.{one-if}
 use Rattle.laws.specs.Sum.{sumTo}
 use Rattle.laws.specs.Lists.{sumOf}
@@ -24,7 +24,7 @@ use Rattle.paper.specs.Statements.{DutyRanged, RunRanged, Ranged, Apart, Meets}
 use Rattle.paper.proofs.Passed.{Ranges}
 use Rattle.table_laws.proofs.Rules.{InOrder, NotJoined, Wholes, before-when}
 use Rattle.paper.proofs.Holding.{RowsApart}
-use Rattle.plan_laws.proofs.Sa1.{Slice, Of, Follows, laid-between, follows, rows-below, few-runs}
+use Rattle.plan_laws.proofs.Sa1.{Slice, Of, Follows, laid-between, follows, few-runs}
 use Rattle.plan_laws.proofs.Sa1Shares.{units-laid, isSplit, few-splits}
 
 -- a whole slice is from 1 to T
@@ -54,20 +54,15 @@ pub record Fits (w : Width) (t m : ℕ) (ds : List Duty) : Type 0 where
   pub slices-fit : sumOf (slices t ds) ≤ m * t
 
 -- the slice of duty i in the list of all
-slices-at : (t : ℕ) (ds : List Duty) (i : ℕ) → i < length ds → getD (slices t ds) i 0 ≡ slice t (dutyAt ds i)
-slices-at t [] i h = absurd (not-suc-le-zero h)
-slices-at t (x ∷ ds) zero h = refl
-slices-at t (x ∷ ds) (suc i) h = slices-at t ds i (le-of-suc-le-suc h)
+slices-at : (t : ℕ) (ds : List Duty) (i : ℕ) → getD (slices t ds) i 0 ≡ slice t (dutyAt ds i)
+unfolding slice
+slices-at t ds i = rw (mul-zero t) at (List·getD-map (slice t) ds i (duty 0 0))
 
 -- a run that follows another is after it by (row, first unit)
 before-after : (t : ℕ) (x y : Run) → Follows t x y → 1 ≤ x .length → 1 ≤ y .length → stop y ≤ t → before x y ≡ true
 before-after t x y f a b c =
     let row : x .row .0 < y .row .0 + 1 = lt-of-mul-lt-mul-right t (omega (arith, f .after)) in
     before-when x y (omega arith) (λ e. omega (arith, f .after, ap (λ (r : ℕ). r * t) e))
-
--- on one row it starts where the other has stopped
-pub apart-after : (t : ℕ) (x y : Run) → Follows t x y → x .row .0 ≡ y .row .0 → Apart x y
-apart-after t x y f e u p q = omega (arith, f .after, ap (λ (r : ℕ). r * t) e)
 
 module _ (w : Width) (t m : ℕ) (ds : List Duty) (f : Fits w t m ds) where
   -- every slice is from 1 to T
@@ -92,7 +87,7 @@ module _ (w : Width) (t m : ℕ) (ds : List Duty) (f : Fits w t m ds) where
   unfolding sa1
   sa1-run-ranged k h =
       record {
-        row-below = each-at (λ x. x .row .0 < m) (run 0 0 0 0) (lay t (slices t ds) 0 0 0) (rows-below t m (slices t ds) 0 0 0 (f .ticks-least) all-slices (omega (arith, f .slices-fit))) k h;
+        row-below = lt-of-mul-lt-mul-right t (omega (arith, run-laid k h, f .slices-fit));
         duty-below = omega (arith, run-laid k h, length-map ds (slice t));
         some-units = run-laid k h .some-units;
         inside = run-laid k h .inside;
@@ -127,11 +122,6 @@ module _ (w : Width) (t m : ℕ) (ds : List Duty) (f : Fits w t m ds) where
         run-ranged = sa1-run-ranged;
       }
 
-  -- rule 12
-  pub sa1-whole : Wholes (sa1 t m ds .ticks) (sa1 t m ds .duties)
-  unfolding sa1
-  sa1-whole = f .slices-whole
-
   -- rule 13
   pub sa1-in-order : InOrder (sa1 t m ds .runs)
   sa1-in-order k h =
@@ -139,7 +129,7 @@ module _ (w : Width) (t m : ℕ) (ds : List Duty) (f : Fits w t m ds) where
 
   -- rule 14
   pub sa1-apart-in-row : RowsApart (sa1 t m ds .runs)
-  sa1-apart-in-row j k l h e = apart-after t _ _ (run-follows j k l h) e
+  sa1-apart-in-row j k l h e u p q = omega (arith, run-follows j k l h .after, ap (λ (r : ℕ). r * t) e)
 
   -- rule 15
   pub sa1-not-joined : NotJoined (sa1 t m ds .runs)
@@ -155,10 +145,7 @@ module _ (w : Width) (t m : ℕ) (ds : List Duty) (f : Fits w t m ds) where
   -- rule 17
   pub sa1-sums : (i : ℕ) → i < length (sa1 t m ds .duties) → unitsOf (sa1 t m ds .runs) i ≡ slice (sa1 t m ds .ticks) (dutyAt (sa1 t m ds .duties) i)
   unfolding sa1
-  sa1-sums i h =
-      ap (unitsOf (lay t (slices t ds) 0 0 0)) (sym (zero-add i))
-      ∙ units-laid t (slices t ds) 0 0 0 (f .ticks-least) all-slices i (omega (arith, length-map ds (slice t)))
-      ∙ slices-at t ds i h
+  sa1-sums i h = units-laid t (slices t ds) 0 0 0 i i (f .ticks-least) all-slices (zero-add i) ∙ slices-at t ds i
 
   -- all rules, where T is the block length
   pub sa1-meets : t ≡ blockLengthOf ds → Meets (sa1 t m ds)
@@ -166,7 +153,7 @@ module _ (w : Width) (t m : ℕ) (ds : List Duty) (f : Fits w t m ds) where
   sa1-meets e =
       record {
         block-length = e;
-        slices-whole = sa1-whole;
+        slices-whole = f .slices-whole;
         in-order = sa1-in-order;
         apart-in-row = sa1-apart-in-row;
         not-joined = sa1-not-joined;
