@@ -1,6 +1,7 @@
 -- Demand 2 for every table: each job of each duty gets its service, and no duty runs on two engines in one tick.
 -- In every block the engines' rows are all rows, each once, so at a tick a duty runs on as many engines as it has runs on the tick's unit.
--- That is at most one; over a block it is the units of the duty's runs, its slice N; and a job is D/T whole blocks, with D/T · N = C.
+-- These are on one row, so it is one engine; over a block it is the units of the duty's runs, its slice N; and a job is D/T whole blocks,
+-- with D/T · N = C.
 -- Of the block length only that it divides the period is used.
 -- Assumes nothing.
 use Prim.Native.Nat.{ℕ, _+_, _*_, _/_, _%_, _≤_, _<_, _∣_}
@@ -14,7 +15,7 @@ use borrow.Author.Tests.{eqb-true, eqb-false}
 use Rattle.laws.specs.Choice.{one-if}
 use Rattle.laws.specs.Sum.{sumTo}
 use Rattle.laws.proofs.Cases.{by-cases}
-use Rattle.laws.proofs.Sum.{sum-ext, sum-const, sum-blocks}
+use Rattle.laws.proofs.Sum.{sum-ext, sum-const, sum-blocks, count-once}
 use Rattle.paper.specs.declared.Duty.{Duty}
 use Rattle.paper.specs.declared.Held.the-variants.{By}
 use Rattle.paper.specs.Words.{row, engine, jobStart, slice, Table, dutyAt, runAt, heldIn, same}
@@ -27,7 +28,7 @@ use Rattle.paper.proofs.Rotation.{row-sum, row-one}
 use Rattle.table_laws.proofs.Accepted.{ticks-divides}
 use Rattle.paper.proofs.Holding.{RowsApart}
 use Rattle.paper.proofs.Links.{Closed, closed, rows-end}
-use Rattle.walk_laws.proofs.Units.{RowsBelow, Inside, DutiesApart, onUnit, rows-unit, units-block, unit-once, one-row}
+use Rattle.walk_laws.proofs.Units.{RowsBelow, Inside, DutiesApart, onUnit, rows-unit, units-block, same-held, one-row}
 
 -- the runs lie in the rows and the units of a block and are apart: what service and exclusion need of a table
 pub record Serving (t : Table) : Type 0 where
@@ -62,16 +63,19 @@ pub given-unit : (t : Table) → Serving t → (i k : ℕ) → given (t .engines
 unfolding given walk
 given-unit t l i k = engines-unit t l i (k / t .ticks) (k % t .ticks)
 
--- exclusion: no duty runs on two engines in a tick
-pub given-once : (t : Table) → Serving t → (i k : ℕ) → given (t .engines) (walk t) i k ≤ 1
-given-once t l i k = rw (given-unit t l i k) (unit-once (t .runs) (l .apart-of-duty) i (k % t .ticks))
-
--- .. in plain words: two engines that run one duty in one tick are one engine
+-- exclusion: two engines that run one duty in one tick are one engine
 pub one-engine : (t : Table) → Serving t → (i k e d : ℕ) → walk t (engine e) k ≡ By i → walk t (engine d) k ≡ By i → e ≡ d
 unfolding walk
 one-engine t l i k e d p q =
     let b = k / t .ticks in
     row-one (link t) b e d (one-row (t .runs) (l .apart-of-duty) (rowAt (link t) b (engine e)) (rowAt (link t) b (engine d)) (k % t .ticks) i p q)
+
+-- .. counted: a duty runs on at most one engine in a tick
+pub given-once : (t : Table) → Serving t → (i k : ℕ) → given (t .engines) (walk t) i k ≤ 1
+unfolding given
+given-once t l i k =
+    count-once (t .engines) (λ e. same (walk t (engine e) k) (By i))
+    (λ e d h b p q. omega (arith, one-engine t l i k e d (same-held (walk t (engine e) k) i p) (same-held (walk t (engine d) k) i q)))
 
 -- service over n whole blocks from block b on: n times the units of the duty's runs
 pub served-blocks : (t : Table) → Serving t → (i b n : ℕ) → served (t .engines) (walk t) i (b * t .ticks) (n * t .ticks) ≡ n * unitsOf (t .runs) i

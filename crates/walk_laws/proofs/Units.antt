@@ -1,30 +1,32 @@
 -- How often a duty stands on a unit of a block. Where the runs of a row are apart, the rows that a duty holds on a unit are as many as its
--- runs that have the unit: each run adds its own row and takes none away. Over the units of a block that adds up to the runs' lengths; and
--- where the runs of a duty are apart it is at most one.
+-- runs that have the unit: each run adds its own row and takes none away. Over the units of a block that adds up to the runs' lengths. And
+-- where the runs of a duty are apart, it is one row at most.
 -- Assumes nothing.
 use Prim.Native.Nat.{ℕ, zero, suc, _+_, _≤_, _<_}
 use mathlib.Core.Path.{_≡_, refl, sym, ap, _∙_}
 use mathlib.Core.Bool.{Bool, true, false, _&&_, and-true, and-false}
 use mathlib.Core.List.{List, [], _∷_}
 use native.Mathlib.Omega.{arith}
-use lib.Dec.{leb, ltb, eqb}
+use lib.Dec.{eqb}
 use lib.ListN.{length}
-use borrow.Author.Tests.{ltb-true, leb-true, eqb-true, eq-eqb, ne-eqb}
+use borrow.Author.Tests.{eqb-true, eq-eqb, ne-eqb}
 use Rattle.laws.specs.Choice.{pick, one-if}
 use Rattle.laws.specs.Sum.{sumTo}
-use Rattle.laws.proofs.Cases.{by-cases, by-order, refuted, and-left, and-right}
+use Rattle.laws.proofs.Cases.{by-cases, by-order, not-both, refuted}
+use Rattle.laws.proofs.Decides.{spans}
 use Rattle.laws.proofs.Sum.{sum-ext, sum-plus, sum-zero, sum-only, count-stretch}
 use Rattle.paper.specs.declared.Row.{Row}
 use Rattle.paper.specs.declared.Run.{Run}
+use Rattle.paper.specs.declared.Held.{Held}
 use Rattle.paper.specs.declared.Held.the-variants.{Idle, By}
 use Rattle.paper.specs.Words.{row, stop, covers, runAt, heldIn, same}
 use Rattle.paper.specs.Rules.{unitsOf}
-use Rattle.paper.specs.Statements.{Has, Apart}
+use Rattle.paper.specs.Statements.{Apart}
 use Rattle.paper.proofs.Holding.{RowsApart, Covering, covers-row, covers-has, held-yes, held-no, held-idle, held-some}
 
 -- run x is duty i's and has the unit u
 abbrev pub serves : Run → ℕ → ℕ → Bool
-serves x i u = eqb (x .duty) i && (leb (x .first) u && ltb u (stop x))
+serves x i u = eqb (x .duty) i && spans (x .first) (x .length) u
 
 -- how many runs of duty i have the unit u
 unfoldable pub onUnit : List Run → ℕ → ℕ → ℕ
@@ -51,6 +53,12 @@ idle-same i = refl
 pub same-by : (i j : ℕ) → same (By i) (By j) ≡ eqb i j
 unfolding same
 same-by i j = refl
+
+-- what is one with a duty is the duty
+pub same-held : (h : Held) (i : ℕ) → same h (By i) ≡ true → h ≡ By i
+unfolding same
+same-held Idle i p = not-both p refl
+same-held (By j) i p = ap By (eqb-true j i p)
 
 -- ---- one run
 
@@ -105,37 +113,7 @@ units-block t (x ∷ xs) inside i =
 
 -- ---- at most once
 
--- where no run of the duty has the unit there are none
-unit-none : (xs : List Run) (i u : ℕ) → ((k : ℕ) → k < length xs → serves (runAt xs k) i u ≡ false) → onUnit xs i u ≡ 0
-unfolding onUnit
-unit-none [] i u c = refl
-unit-none (x ∷ xs) i u c = rw (c 0 (omega arith)) (omega (arith, unit-none xs i u (λ k h. c (suc k) (omega arith))))
-
--- where the test holds the run is the duty's and has the unit
-serves-has : (x : Run) (i u : ℕ) → serves x i u ≡ true → (x .duty ≡ i) × Has x u
-serves-has x i u h =
-    let a = eqb (x .duty) i in
-    let b = leb (x .first) u in
-    let c = ltb u (stop x) in
-    let bc = and-right a (b && c) h in
-    (eqb-true (x .duty) i (and-left a (b && c) h), (leb-true (x .first) u (and-left b c bc), ltb-true u (stop x) (and-right b c bc)))
-
--- where a duty's runs are apart, at most one has the unit
-pub unit-once : (xs : List Run) → DutiesApart xs → (i u : ℕ) → onUnit xs i u ≤ 1
-unfolding onUnit
-unit-once [] a i u = omega arith
-unit-once (x ∷ xs) a i u =
-    let rest = unit-once xs (λ j k l h. a (suc j) (suc k) (omega arith) (omega arith)) i u in
-    by-cases (serves x i u)
-    (λ h. let c = serves-has x i u h in rw (h, unit-none xs i u (λ k l. none k l c)) (omega arith))
-    (λ h. rw h (omega arith))
-  where
-    none : (k : ℕ) → k < length xs → (x .duty ≡ i) × Has x u → serves (runAt xs k) i u ≡ false
-    none k l c =
-        refuted (serves (runAt xs k) i u)
-        (λ q. let d = serves-has (runAt xs k) i u q in a 0 (suc k) (omega arith) (omega arith) (c .0 ∙ sym (d .0)) u (c .1) (d .1))
-
--- .. so a duty holds a unit on one row only
+-- where a duty's runs are apart it holds a unit on one row only
 pub one-row : (xs : List Run) → DutiesApart xs → (r s : Row) (u i : ℕ) → heldIn xs r u ≡ By i → heldIn xs s u ≡ By i → r .0 ≡ s .0
 one-row xs a r s u i p q =
     let x = held-some xs r u i p in
