@@ -1,1 +1,1 @@
-pub mod Built
+pub mod BuildAt

@@ -16,7 +16,7 @@ use Rattle.paper.specs.Text.{printLine, chainWord, chainLine}
 use Rattle.paper.proofs.Rotation.{first-zero, first-cut}
 use Rattle.walk_laws.proofs.Chains.{InChain, in-chain, chain-below, chains-more}
 use Rattle.rotation.specs.Chains.{IsLast}
-use Rattle.number_print.specs.Puts.{Puts}
+use Rattle.paper.specs.Outcome.{Puts}
 
 -- the lines of the chains that begin below row k, of m rows
 abbrev pub linesBelow : (ℕ → Bool) → ℕ → ℕ → List ℕ

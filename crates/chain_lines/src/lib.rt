@@ -6,16 +6,16 @@ ghost use lib.ListN.{length};
 ghost use Rattle.paper.specs.Rotation.{firstOf};
 ghost use Rattle.row_edges.specs.Links.{linkOf};
 ghost use Rattle.carried_over.specs.Carried.{carriedOf};
-ghost use Rattle.number_print.specs.Puts.{Puts};
+ghost use Rattle.paper.specs.Outcome.{Puts};
 ghost use Rattle.chain_lines.specs.Parts.{chainLinesBy, rotationLinesBy};
 use carried_over::carried;
 use paper::Row;
 use rotation::chain_last;
-use table_lines::put_chain;
-use table_lines::put_loads;
+use table_lines::print_chain;
+use table_lines::print_loads;
 
 // The chains, by first row: past the last row of one the next begins.
-fn put_chains(out: &mut [u8], starts: &[u32; 33], ends: &[u32; 33], engines: u32) -> usize
+fn print_chains(out: &mut [u8], starts: &[u32; 33], ends: &[u32; 33], engines: u32) -> usize
     requires { ⌜ (engines ≤ 32) × (12 * engines ≤ length (now out)) ⌝ }
     requires { ⌜ firstOf (linkOf (now starts) (now ends)) engines ≡ engines ⌝ }
     ensures { λ r. ⌜ Puts (chainLinesBy (now (starts .entry)) (now (ends .entry)) engines) (now (out .entry)) (now (out .exit)) r ⌝ }
@@ -25,14 +25,14 @@ fn put_chains(out: &mut [u8], starts: &[u32; 33], ends: &[u32; 33], engines: u32
     let mut first = 0;
     while first < engines {
         let next = chain_last(starts, ends, Row(first)).0 + 1;
-        at += put_chain(&mut out[at..], first, next - first);
+        at += print_chain(&mut out[at..], first, next - first);
         first = next;
     }
     at
 }
 
 // Chains and loads. Each run is a load in block 0; in a later block the duties that are kept over the boundary are none.
-pub fn put_rotation(
+pub fn print_rotation(
     out: &mut [u8],
     starts: &[u32; 33],
     ends: &[u32; 33],
@@ -45,7 +45,7 @@ pub fn put_rotation(
     ensures { λ r. ⌜ Puts (rotationLinesBy (now (starts .entry)) (now (ends .entry)) engines runs) (now (out .entry)) (now (out .exit)) r ⌝ }
     ensures { λ r. ⌜ r ≤ 406 ⌝ }
 {
-    let at = put_chains(out, starts, ends, engines);
+    let at = print_chains(out, starts, ends, engines);
     let kept = carried(starts, ends, engines);
-    at + put_loads(&mut out[at..], runs, runs - kept)
+    at + print_loads(&mut out[at..], runs, runs - kept)
 }

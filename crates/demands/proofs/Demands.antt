@@ -10,24 +10,30 @@ use Rattle.laws.specs.Choice.{one-if}
 use Rattle.laws.specs.Sum.{sumTo}
 use Rattle.laws.proofs.Digits.{AreBytes}
 use Rattle.paper.specs.declared.Engine.{Engine}
+use Rattle.paper.specs.declared.Duty.{Duty}
 use Rattle.paper.specs.declared.Held.the-variants.{By}
-use Rattle.paper.specs.Words.{engine, row, jobStart, blockLengthOf, Table, dutyAt, heldIn}
+use Rattle.paper.specs.Duties.{engine, jobStart, dutyAt}
+use Rattle.paper.specs.Words.{row, blockLengthOf, Table, heldIn}
 use Rattle.paper.specs.Sa1.{sa1}
 use Rattle.paper.specs.Rotation.{link, nextOf, rowAt}
-use Rattle.paper.specs.Schedule.{walk, given, served, load, loadsIn, loads}
+use Rattle.paper.specs.Walk.{walk, loads}
+use Rattle.paper.specs.Schedule.{given, served, load, loadsIn}
 use Rattle.paper.specs.Outcome.{Outcome, refused, answer, andThen, leaves}
 use Rattle.paper.specs.Bytes.{small, encode}
-use Rattle.paper.specs.Builder.{dutiesOf, plan, build}
+use Rattle.paper.specs.Wanted.{Wanted, wantedOf, dutySet, taken}
+use Rattle.paper.specs.Builder.{plan, build}
 use Rattle.paper.specs.Rules.{accepted, judged}
 use Rattle.paper.specs.Statements.{Ranged, Meets}
-use Rattle.paper.specs.Answers.{State, rowsAt, stateAt, mostBlocks, question, start, rowTold, advanced, counted}
-use Rattle.paper.specs.Text.{servicesOf, periodsOf, input}
+use Rattle.paper.specs.declared.State.{State}
+use Rattle.paper.specs.Answers.{replyOf, rowsAt, stateAt, mostBlocks, question, start, rowTold, advanced, counted}
+use Rattle.paper.specs.Text.{input}
 use Rattle.paper.proofs.Outcomes.{refused-leaves}
 use Rattle.paper.proofs.Rotation.{row-start, row-after}
 use Rattle.walk_laws.proofs.Service.{meets-serving, job-served, never-twice, one-engine}
 use Rattle.paper.proofs.Passed.{From}
+use Rattle.plan_laws.proofs.TakenWhen.{WhenTaken, taken-when}
 use Rattle.plan_laws.proofs.PlanWhen.{When, plan-when}
-use Rattle.plan_laws.proofs.Planned.{planned-sa1, planned-engines, planned-services, planned-periods, WhenBuilt, built-when, built, built-accepted}
+use Rattle.plan_laws.proofs.Planned.{planned-sa1, planned-wanted, WhenBuilt, built-when, built, built-accepted}
 use Rattle.table_laws.proofs.AcceptedBytes.{accepted-ranged, accepted-meets, accepted-when}
 use Rattle.plan_laws.proofs.Listed.{Listed, build-listed, judged-listed, question-listed, start-listed, row-listed, next-listed, counted-listed, input-listed}
 use Rattle.paper.proofs.Asked.{advancedBy, question-is, start-is, row-is, row-strange, next-strange, next-all, counted-is}
@@ -41,9 +47,9 @@ pub settled : {A : Type 0} (o : Outcome A) → ((a : A) × (o ≡ answer a)) ⊎
 settled (refused n p) = inr (n, p, refl)
 settled (answer a) = inl (a, refl)
 
--- the numbers of each call's refusals; each fits a byte, and each place is at most 4,096
+-- the numbers of each call's refusals; each fits a byte, and each place is within the bound on places
 pub refusals-listed :
-    ((m : ℕ) (ss ps : List ℕ) (room : ℕ) → Listed (From 1 8) (build m ss ps room))
+    ((x : Wanted) (room : ℕ) → Listed (From 1 8) (build x room))
     × ((b : List ℕ) → Listed (From 10 17) (judged b))
     × ((b : List ℕ) (e : Engine) (k : ℕ) → Listed (From 10 18) (question b e k))
     × ((b : List ℕ) (k : ℕ) → Listed (From 10 17) (start b k))
@@ -61,36 +67,35 @@ refusal-writes-nothing = refused-leaves
 -- ---- table is accepted, whoever wrote it, exactly when it meets document 01's rules."
 
 -- the plan is SA1's
-pub plan-sa1 : (m : ℕ) (ss ps : List ℕ) (t : Table) → plan m ss ps ≡ answer t → t ≡ sa1 (blockLengthOf (dutiesOf ss ps)) m (dutiesOf ss ps)
+pub plan-sa1 : (x : Wanted) (t : Table) → plan x ≡ answer t → t ≡ sa1 (blockLengthOf (dutySet x)) (x .engines) (dutySet x)
 plan-sa1 = planned-sa1
 
--- there is a plan, or one of refusals 1 to 7 with its place, exactly where the document says so; the same with 8 for the bytes
-pub plan-exactly : (m : ℕ) (ss ps : List ℕ) (o : Outcome Table) → (plan m ss ps ≡ o) ↔ When m ss ps o
+-- what is wanted is taken, or one of refusals 1 to 5 with its place, exactly where the document says so; the same with 6 and 7 for the plan,
+-- and with 8 for the bytes
+pub taken-exactly : (x : Wanted) (o : Outcome (List Duty)) → (taken x ≡ o) ↔ WhenTaken x o
+taken-exactly = taken-when
+
+pub plan-exactly : (x : Wanted) (o : Outcome Table) → (plan x ≡ o) ↔ When x o
 plan-exactly = plan-when
 
-pub build-exactly : (m : ℕ) (ss ps : List ℕ) (room : ℕ) (o : Outcome (List ℕ)) → (build m ss ps room ≡ o) ↔ WhenBuilt m ss ps room o
+pub build-exactly : (x : Wanted) (room : ℕ) (o : Outcome (List ℕ)) → (build x room ≡ o) ↔ WhenBuilt x room o
 build-exactly = built-when
 
--- what the builder writes is accepted and reads back as the plan of the engines and the duties that were given
-pub record ReadsBack (m : ℕ) (ss ps : List ℕ) (b : List ℕ) : Type 0 where
+-- what the builder writes is accepted and reads back as the plan of what was wanted
+pub record ReadsBack (x : Wanted) (b : List ℕ) : Type 0 where
   pub table : Table
-  pub is-plan : plan m ss ps ≡ answer table
+  pub is-plan : plan x ≡ answer table
   pub is-read : accepted b ≡ answer table
-  pub engines : table .engines ≡ m
-  pub services : servicesOf (table .duties) ≡ ss
-  pub periods : periodsOf (table .duties) ≡ ps
+  pub is-wanted : wantedOf (table .engines) (table .duties) ≡ x
 
-pub build-reads-back : (m : ℕ) (ss ps : List ℕ) (room : ℕ) (b : List ℕ) → build m ss ps room ≡ answer b → ReadsBack m ss ps b
-build-reads-back m ss ps room b h =
-    let r = built m ss ps room b h in
-    let t = r .table in
+pub build-reads-back : (x : Wanted) (room : ℕ) (b : List ℕ) → build x room ≡ answer b → ReadsBack x b
+build-reads-back x room b h =
+    let r = built x room b h in
     record {
-      table = t;
+      table = r .table;
       is-plan = r .plans;
-      is-read = built-accepted m ss ps room b h;
-      engines = planned-engines m ss ps t (r .plans);
-      services = planned-services m ss ps t (r .plans);
-      periods = planned-periods m ss ps t (r .plans);
+      is-read = built-accepted x room b h;
+      is-wanted = planned-wanted x (r .table) (r .plans);
     }
 
 -- bytes are accepted as a table exactly when they are its bytes, every field is in range and rules 11 to 17 are met
@@ -123,7 +128,7 @@ module _ (b : List ℕ) (t : Table) (h : accepted b ≡ answer t) where
   walk-rows = (row-start (link t), row-after (link t), (λ e k. refl))
 
   -- the question
-  pub question-walks : (e : Engine) (k : ℕ) → e .0 < t .engines → question b e k ≡ answer (record { held = walk t e k; row = rowAt (link t) (k / t .ticks) e })
+  pub question-walks : (e : Engine) (k : ℕ) → e .0 < t .engines → question b e k ≡ answer (replyOf t e k)
   question-walks = question-is b t h
 
   -- the dispatcher: started at block k and taken over n boundaries it is at block k + n ..

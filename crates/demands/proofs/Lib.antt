@@ -1,3 +1,4 @@
--- The user's three demands, and cases in which they speak of something.
+-- The user's three demands; that each call's promise leaves one outcome; and cases in which they speak of something.
 pub mod Demands
+pub mod OneOutcome
 pub mod NotEmpty

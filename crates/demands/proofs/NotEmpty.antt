@@ -15,13 +15,16 @@ use Rattle.laws.proofs.Lists.{length-tab}
 use Rattle.laws.proofs.Digits.{AreBytes}
 use Rattle.paper.specs.declared.Duty.{Duty}
 use Rattle.paper.specs.declared.Held.the-variants.{By}
-use Rattle.paper.specs.Words.{duty, run, row, engine, slice, whole, covers, heldIn, same, blockLengthOf, Table}
+use Rattle.paper.specs.Duties.{duty, engine, same}
+use Rattle.paper.specs.Words.{run, row, slice, whole, covers, heldIn, blockLengthOf, Table}
 use Rattle.paper.specs.Sa1.{sa1, lay, layOne, rowAfter, unitAfter}
 use Rattle.paper.specs.Rotation.{link, firstOf, nextOf, rowAt}
-use Rattle.paper.specs.Schedule.{walk, served}
+use Rattle.paper.specs.Walk.{walk}
+use Rattle.paper.specs.Schedule.{served}
 use Rattle.paper.specs.Outcome.{refused, answer}
 use Rattle.paper.specs.Bytes.{small, parse, afterHead, afterRuns, headGood, dutyGood, runGood, endGood, badDuty, goodRuns, tableIn, stands, dutyIn, runIn, encode, headBytes, dutyBytes, runBytes, endBytes}
-use Rattle.paper.specs.Builder.{dutiesOf, badRange, badSlice, planAt, planDuties, plan, fitted, build}
+use Rattle.paper.specs.Wanted.{Wanted, wanted, dutySet, dutiesOf, badRange, inRange, taken}
+use Rattle.paper.specs.Builder.{badSlice, planAt, plan, fitted, build}
 use Rattle.paper.specs.Rules.{before, meet, unordered, overlaps, joins, twice, lowest, unitsOf, badSum, badOrder, judgeRuns, judgeTable, accepted}
 use Rattle.paper.specs.Statements.{Meets}
 use Rattle.paper.specs.Answers.{rowsAt, advanced, question}
@@ -57,10 +60,9 @@ unfolding sa1
 sa1-own x t m ds e = rw e
 
 -- so the builder never plans it
-pub byHand-unplanned : (m : ℕ) (ss ps : List ℕ) → plan m ss ps ≡ answer byHand → ⊥
+pub byHand-unplanned : (x : Wanted) → plan x ≡ answer byHand → ⊥
 unfolding byHand
-byHand-unplanned m ss ps h =
-    byHand-own (sa1-own byHand (blockLengthOf (dutiesOf ss ps)) m (dutiesOf ss ps) (plan-sa1 m ss ps byHand h))
+byHand-unplanned x h = byHand-own (sa1-own byHand (blockLengthOf (dutySet x)) (x .engines) (dutySet x) (plan-sa1 x byHand h))
 
 -- its bytes are bytes, and it meets the rules
 pub byHand-bytes : AreBytes (encode small byHand)
@@ -89,6 +91,6 @@ state-of-byHand =
     (λ e. let z : 0 ≡ 32 = ap length e ∙ length-tab 32 _ in omega arith) .1
 
 -- the builder writes P2's 30 bytes into a buffer of 30, and refuses one of 29
-pub built-p2 : (build 1 (1 ∷ []) (1 ∷ []) 30 ≡ answer (1 ∷ 1 ∷ 0 ∷ 0 ∷ 0 ∷ 1 ∷ 1 ∷ 2 ∷ 1 ∷ 0 ∷ 0 ∷ 0 ∷ 1 ∷ 0 ∷ 0 ∷ 0 ∷ 3 ∷ 0 ∷ 0 ∷ 0 ∷ 0 ∷ 0 ∷ 0 ∷ 1 ∷ 0 ∷ 0 ∷ 0 ∷ 4 ∷ 1 ∷ 0 ∷ [])) × (build 1 (1 ∷ []) (1 ∷ []) 29 ≡ refused 8 30)
-unfolding build fitted plan planDuties planAt badRange badSlice sa1 lay layOne rowAfter unitAfter slice whole blockLengthOf gcdOf gcd euclid dutiesOf tab sumOf first encode headBytes dutyBytes runBytes endBytes flat digits
+pub built-p2 : (build (wanted 1 (1 ∷ []) (1 ∷ [])) 30 ≡ answer (1 ∷ 1 ∷ 0 ∷ 0 ∷ 0 ∷ 1 ∷ 1 ∷ 2 ∷ 1 ∷ 0 ∷ 0 ∷ 0 ∷ 1 ∷ 0 ∷ 0 ∷ 0 ∷ 3 ∷ 0 ∷ 0 ∷ 0 ∷ 0 ∷ 0 ∷ 0 ∷ 1 ∷ 0 ∷ 0 ∷ 0 ∷ 4 ∷ 1 ∷ 0 ∷ [])) × (build (wanted 1 (1 ∷ []) (1 ∷ [])) 29 ≡ refused 8 30)
+unfolding build fitted plan taken inRange planAt badRange badSlice sa1 lay layOne rowAfter unitAfter slice whole blockLengthOf gcdOf gcd euclid dutiesOf tab sumOf first encode headBytes dutyBytes runBytes endBytes flat digits
 built-p2 = (refl, refl)

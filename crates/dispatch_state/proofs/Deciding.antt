@@ -13,8 +13,8 @@ use Rattle.dispatch_state.specs.RowsBy.{rowsBy}
 use Rattle.dispatch_state.specs.ByState.{stepBy, rowBy}
 
 -- an engine that is not there: 18, before anything else
-pub row-none : (c : ℕ → Bool) (m b : ℕ) (rows : List ℕ) (e : Engine) → m ≤ e .0 → rowBy c m b rows e ≡ refused 18 0
-row-none c m b rows e l = rw (le-ltb (e .0) m l)
+pub row-absent : (c : ℕ → Bool) (m b : ℕ) (rows : List ℕ) (e : Engine) → m ≤ e .0 → rowBy c m b rows e ≡ refused 18 0
+row-absent c m b rows e l = rw (le-ltb (e .0) m l)
 
 module _ (c : ℕ → Bool) (m b : ℕ) (rows : List ℕ) {own : Bool} (is : own ≡ same-list rows (rowsBy c m b)) where
   -- the next block: 20, then 21
@@ -31,5 +31,5 @@ module _ (c : ℕ → Bool) (m b : ℕ) (rows : List ℕ) {own : Bool} (is : own
   pub row-foreign : (e : Engine) → e .0 < m → not own ≡ true → rowBy c m b rows e ≡ refused 20 0
   row-foreign e l h = rw (lt-ltb (e .0) m l, ← is, not-true own h)
 
-  pub row-is : (e : Engine) → e .0 < m → not own ≡ false → rowBy c m b rows e ≡ answer (rowAt c b e)
-  row-is e l h = rw (lt-ltb (e .0) m l, ← is, not-false own h)
+  pub row-told : (e : Engine) → e .0 < m → not own ≡ false → rowBy c m b rows e ≡ answer (rowAt c b e)
+  row-told e l h = rw (lt-ltb (e .0) m l, ← is, not-false own h)

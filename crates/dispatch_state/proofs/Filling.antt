@@ -10,7 +10,7 @@ use lib.Seq.{ext-getD}
 use borrow.Author.Tests.{lt-ltb, le-ltb}
 use Rattle.laws.specs.Lists.{same-list}
 use Rattle.laws.proofs.Lists.{Filled, filled-part, same-list-of-eq}
-use Rattle.paper.specs.Words.{engine}
+use Rattle.paper.specs.Duties.{engine}
 use Rattle.paper.specs.Rotation.{rowAt}
 use Rattle.dispatch_state.specs.RowsBy.{rowsBy}
 

@@ -8,22 +8,15 @@ use Rattle.laws.specs.Lists.{same-list}
 use Rattle.paper.specs.declared.Row.{Row}
 use Rattle.paper.specs.declared.Engine.{Engine}
 use Rattle.paper.specs.Rotation.{rowAt}
-use Rattle.paper.specs.Outcome.{Outcome, refused, answer}
+use Rattle.paper.specs.Outcome.{Outcome, refused, answer, refusedAs}
 use Rattle.dispatch_state.specs.RowsBy.{rowsBy}
 use Rattle.dispatch_state.specs.declared.Step.{Step}
 use Rattle.dispatch_state.specs.declared.Step.the-variants.{To, Refused as NoStep}
-use Rattle.dispatch_state.specs.declared.RowTold.{RowTold}
-use Rattle.dispatch_state.specs.declared.RowTold.the-variants.{At, Refused as NoRow}
 
--- the next block; its refusals name no place
+-- the next block
 abbrev pub stepAs : Step → Outcome ℕ
 stepAs (To block) = answer block
-stepAs (NoStep number) = refused number 0
-
--- an engine's row
-abbrev pub rowAs : RowTold → Outcome Row
-rowAs (At row) = answer row
-rowAs (NoRow number place) = refused number place
+stepAs (NoStep x) = refusedAs x
 
 -- 20 where the rows are not the block's
 abbrev pub ownBy : {A : Type 0} → (ℕ → Bool) → ℕ → ℕ → List ℕ → Outcome A → Outcome A

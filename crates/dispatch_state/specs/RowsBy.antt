@@ -5,7 +5,7 @@ use mathlib.Core.List.{List}
 use lib.Dec.{ltb}
 use Rattle.laws.specs.Choice.{pick}
 use Rattle.laws.specs.Lists.{tab}
-use Rattle.paper.specs.Words.{engine}
+use Rattle.paper.specs.Duties.{engine}
 use Rattle.paper.specs.Rotation.{rowAt}
 
 -- one for each engine, 0 past the last

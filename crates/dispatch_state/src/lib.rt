@@ -3,27 +3,23 @@
 ghost use mathlib.Core.Path.{_≡_};
 ghost use Prim.Native.Nat.{_≤_};
 ghost use Rattle.laws.specs.Lists.{same-list};
+ghost use Rattle.paper.specs.Answers.{rowAs};
 ghost use Rattle.row_edges.specs.Links.{linkOf};
 ghost use Rattle.dispatch_state.specs.RowsBy.{rowsBy};
-ghost use Rattle.dispatch_state.specs.ByState.{stepAs, rowAs, stepBy, rowBy};
+ghost use Rattle.dispatch_state.specs.ByState.{stepAs, stepBy, rowBy};
 use paper::Engine;
-use paper::Row;
+use paper::Refusal;
+use paper::RowTold;
 use rotation::row_in;
 
 const MOST_ENGINES: usize = 32;
 
 const LAST_BLOCK: u64 = 18446744073709551615;
 
-// The row of an engine, or a refusal.
-pub enum RowTold {
-    At(Row),
-    Refused(u32, usize),
-}
-
-// The block after a state's, or the refusal's number.
+// The block after a state's, or why there is none.
 pub enum Step {
     To(u64),
-    Refused(u32),
+    Refused(Refusal),
 }
 
 // The rows of all engines in a block, by what holds the first and the last unit of each row.
@@ -75,12 +71,19 @@ pub fn advance(
     ensures { λ r. ⌜ stepAs r ≡ stepBy (linkOf (now (starts .entry)) (now (ends .entry))) engines block rows ⌝ }
 {
     if !is_own(engines, starts, ends, block, rows) {
-        return Step::Refused(20);
+        return Step::Refused(Refusal {
+            number: 20,
+            place: 0,
+        });
     }
     if block == LAST_BLOCK {
-        return Step::Refused(21);
+        return Step::Refused(Refusal {
+            number: 21,
+            place: 0,
+        });
     }
-    Step::To(block + 1)
+    let next = block + 1;
+    Step::To(next)
 }
 
 // The row of an engine by a state.
@@ -96,10 +99,16 @@ pub fn tell(
     ensures { λ r. ⌜ rowAs r ≡ rowBy (linkOf (now (starts .entry)) (now (ends .entry))) engines block rows engine ⌝ }
 {
     if engines <= engine.0 {
-        return RowTold::Refused(18, 0);
+        return RowTold::Refused(Refusal {
+            number: 18,
+            place: 0,
+        });
     }
     if !is_own(engines, starts, ends, block, rows) {
-        return RowTold::Refused(20, 0);
+        return RowTold::Refused(Refusal {
+            number: 20,
+            place: 0,
+        });
     }
     RowTold::At(row_in(starts, ends, engine, block))
 }

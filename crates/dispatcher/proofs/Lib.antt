@@ -1,2 +1,1 @@
 mod Rows
-pub mod Unique

@@ -15,7 +15,9 @@ use Rattle.paper.specs.Rotation.{link, rowAt}
 use Rattle.paper.specs.declared.Judged.the-variants.{Accepted}
 use Rattle.paper.specs.Outcome.{Outcome, refused, answer, andThen}
 use Rattle.paper.specs.Rules.{accepted}
-use Rattle.paper.specs.Answers.{State, rowsAt, ofEngine, ofState, stateAt}
+use Rattle.paper.specs.declared.State.{State}
+use Rattle.paper.specs.declared.Dispatched.{Dispatched}
+use Rattle.paper.specs.Answers.{rowsAt, ofEngine, ofState, stateAt, Hands}
 use Rattle.record_read.specs.Formed.{Formed, tableOf}
 use Rattle.record_read.proofs.Table.{table-engines}
 use Rattle.judge.specs.declared.Ruling.{Ruling}
@@ -27,7 +29,11 @@ use Rattle.table_tally.proofs.Linked.{link-read}
 use Rattle.dispatch_state.specs.RowsBy.{rowsBy}
 use Rattle.dispatch_state.specs.declared.Step.{Step}
 use Rattle.dispatch_state.specs.ByState.{stepAs, stepBy, rowBy}
-use Rattle.dispatcher.specs.Told.{stateBy, nextBy}
+use Rattle.dispatcher.specs.ByLinks.{stateBy, nextBy}
+
+-- what is handed back for an outcome is handed back for an equal one
+pub hands-same : {o o′ : Outcome State} {r : Dispatched} → Hands o r → o ≡ o′ → Hands o′ r
+hands-same h e = rw e at h
 
 -- the next state, by what the state was told of the next block
 pub next-by : (c : ℕ → Bool) (m : ℕ) (s : State) {x y : Step} → stepAs x ≡ stepBy c m (s .block) (s .rows) → x ≡ y

@@ -12,9 +12,10 @@ use Rattle.laws.specs.Divisor.{gcdOf}
 use Rattle.laws.specs.Lists.{sumOf}
 use Rattle.laws.proofs.Lists.{getD-tab, drop-map, sumOf-step, sumOf-done}
 use Rattle.paper.specs.declared.Duty.{Duty}
-use Rattle.paper.specs.Words.{duty, dutyAt, slice, blockLengthOf}
+use Rattle.paper.specs.Duties.{duty, dutyAt}
+use Rattle.paper.specs.Words.{slice, blockLengthOf}
 use Rattle.paper.specs.Sa1.{slices}
-use Rattle.paper.specs.Builder.{dutiesOf}
+use Rattle.paper.specs.Wanted.{dutiesOf}
 use Rattle.plan_laws.proofs.Planned.{periods-back}
 
 -- duty i has the entries at i

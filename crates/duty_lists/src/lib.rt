@@ -1,16 +1,27 @@
-// What stands in the builder's two lists, services and periods: the duties, the first one that is out of range or whose slice
-// is not whole, their slices, and what these add up to.
+// What stands in the builder's two lists, services and periods: the duties, and tests 1 to 5, after which they are taken; then the first
+// duty whose slice is not whole, the slices, and what these add up to.
 ghost use mathlib.Core.Path.{_≡_};
+ghost use mathlib.Core.List.{List};
 ghost use Prim.Native.Nat.{_≤_, _<_};
 ghost use lib.ListN.{length};
 ghost use Rattle.laws.specs.Lists.{sumOf};
-ghost use Rattle.paper.specs.Words.{dutyAt, slice};
+ghost use Rattle.laws.specs.Choice.{pick};
+ghost use Rattle.paper.specs.declared.Duty.{Duty};
+ghost use Rattle.paper.specs.Duties.{dutyAt};
+ghost use Rattle.paper.specs.Words.{slice};
 ghost use Rattle.paper.specs.Sa1.{slices};
-ghost use Rattle.paper.specs.Bytes.{dutyRanged};
-ghost use Rattle.paper.specs.Builder.{dutiesOf, badRange, badSlice};
-ghost use Rattle.duty_lists.specs.Ready.{Paired, Ready};
+ghost use Rattle.paper.specs.Bytes.{mostTicks, within};
+ghost use Rattle.paper.specs.Outcome.{refused, refusedAs, verdictAs};
+ghost use Rattle.paper.specs.Wanted.{wanted, dutiesOf, badRange, taken};
+ghost use Rattle.paper.specs.Builder.{badSlice};
+ghost use Rattle.duty_lists.specs.Sliceable.{Paired, Sliceable};
 use paper::Duty;
+use paper::Refusal;
+use paper::Verdict;
+use slices::duty_in_range;
 use slices::is_whole;
+use slices::is_within;
+use slices::period_in_range;
 use slices::slice_of;
 
 // Duty i of the two lists.
@@ -24,21 +35,14 @@ pub fn duty_at(services: &[u32], periods: &[u32], i: usize) -> Duty
     }
 }
 
-// Whether a duty's period and service are in range.
-fn in_range(x: Duty) -> bool
-    ensures { λ r. ⌜ r ≡ dutyRanged x ⌝ }
-{
-    ((1 <= x.period) & (x.period <= 1_000_000)) & ((1 <= x.service) & (x.service <= x.period))
-}
-
 // The first duty whose period or service is out of range, or how many there are.
-pub fn bad_range(services: &[u32], periods: &[u32]) -> usize
+fn bad_range(services: &[u32], periods: &[u32]) -> usize
     requires { ⌜ Paired (now services) (now periods) ⌝ }
     ensures { λ r. ⌜ r ≡ badRange (dutiesOf (now (services .entry)) (now (periods .entry))) ⌝ }
 {
     let mut i = 0;
     while i < services.len() {
-        if !in_range(duty_at(services, periods, i)) {
+        if !duty_in_range(duty_at(services, periods, i)) {
             return i;
         }
         i += 1;
@@ -46,9 +50,56 @@ pub fn bad_range(services: &[u32], periods: &[u32]) -> usize
     i
 }
 
+// Why duty d is out of range: 5 where its period is in range, and so its service is not; else 4.
+fn range_fault(period: u32, d: usize) -> Refusal
+    ensures { λ r. ⌜ refusedAs {A = List Duty} r ≡ pick (within 1 mostTicks period) (refused 5 d) (refused 4 d) ⌝ }
+{
+    if period_in_range(period) {
+        return Refusal {
+            number: 5,
+            place: d,
+        };
+    }
+    Refusal {
+        number: 4,
+        place: d,
+    }
+}
+
+// Takes the duties of the two lists, after tests 1 to 5 in their order.
+pub fn take_duties(engines: u32, services: &[u32], periods: &[u32]) -> Verdict
+    ensures { λ r. ⌜ verdictAs r (dutiesOf (now (services .entry)) (now (periods .entry))) ≡ taken (wanted engines (now (services .entry)) (now (periods .entry))) ⌝ }
+{
+    if !is_within(1, 32, engines as usize) {
+        return Verdict::Refused(Refusal {
+            number: 1,
+            place: 0,
+        });
+    }
+    let duties = services.len();
+    if duties != periods.len() {
+        return Verdict::Refused(Refusal {
+            number: 2,
+            place: 0,
+        });
+    }
+    if !is_within(1, 64, duties) {
+        return Verdict::Refused(Refusal {
+            number: 3,
+            place: 0,
+        });
+    }
+    let bad = bad_range(services, periods);
+    if bad < duties {
+        let why = range_fault(periods[bad], bad);
+        return Verdict::Refused(why);
+    }
+    Verdict::Done
+}
+
 // The first duty whose slice is not whole, or how many there are.
 pub fn bad_slice(t: u32, services: &[u32], periods: &[u32]) -> usize
-    requires { ⌜ Ready t (now services) (now periods) ⌝ }
+    requires { ⌜ Sliceable t (now services) (now periods) ⌝ }
     ensures { λ r. ⌜ r ≡ badSlice t (dutiesOf (now (services .entry)) (now (periods .entry))) ⌝ }
 {
     let mut i = 0;
@@ -63,7 +114,7 @@ pub fn bad_slice(t: u32, services: &[u32], periods: &[u32]) -> usize
 
 // The slice of duty i: at most the block length.
 pub fn slice_at(t: u32, services: &[u32], periods: &[u32], i: usize) -> u32
-    requires { ⌜ Ready t (now services) (now periods) × (i < length (now services)) ⌝ }
+    requires { ⌜ Sliceable t (now services) (now periods) × (i < length (now services)) ⌝ }
     ensures { λ r. ⌜ (r ≡ slice t (dutyAt (dutiesOf (now (services .entry)) (now (periods .entry))) i)) × (r ≤ t) ⌝ }
 {
     slice_of(t, duty_at(services, periods, i))
@@ -71,7 +122,7 @@ pub fn slice_at(t: u32, services: &[u32], periods: &[u32], i: usize) -> u32
 
 // What the slices add up to.
 pub fn total_slices(t: u32, services: &[u32], periods: &[u32]) -> u32
-    requires { ⌜ Ready t (now services) (now periods) ⌝ }
+    requires { ⌜ Sliceable t (now services) (now periods) ⌝ }
     ensures { λ r. ⌜ r ≡ sumOf (slices t (dutiesOf (now (services .entry)) (now (periods .entry)))) ⌝ }
 {
     let mut total: u32 = 0;

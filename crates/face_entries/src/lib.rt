@@ -4,18 +4,31 @@ ghost use mathlib.Core.Path.{_≡_};
 ghost use Prim.Native.Nat.{_+_, _*_, _≤_, _<_, min};
 ghost use lib.ListN.{length, getD};
 ghost use Rattle.laws.specs.Lists.{over, tab};
-ghost use Rattle.face_entries.specs.Entries.{readingEntries, heldEntry, replyEntries};
+ghost use Rattle.paper.specs.Outcome.{mostPlace};
+ghost use Rattle.paper.specs.Face.{readingEntries, heldEntry, replyEntries};
 ghost use mathlib.Core.List.{_∷_};
 use paper::Held;
 use paper::Reading;
-use paper::Row;
+use paper::Refusal;
+use paper::Reply;
 
 // A refusal as a word.
-pub fn refusal(number: u32, place: usize) -> u64
-    requires { ⌜ (number < 256) × (place ≤ 4096) ⌝ }
-    ensures { λ r. ⌜ r ≡ number + 256 * place ⌝ }
+pub fn word_of(why: Refusal) -> u64
+    requires { ⌜ (why .number < 256) × (why .place ≤ mostPlace) ⌝ }
+    ensures { λ r. ⌜ r ≡ why .number + 256 * why .place ⌝ }
 {
-    number as u64 + 256 * place as u64
+    why.number as u64 + 256 * why.place as u64
+}
+
+// The word for a lent list that is too short, with the entries needed.
+pub fn too_short(needed: usize) -> u64
+    requires { ⌜ needed ≤ mostPlace ⌝ }
+    ensures { λ r. ⌜ r ≡ 255 + 256 * needed ⌝ }
+{
+    word_of(Refusal {
+        number: 255,
+        place: needed,
+    })
 }
 
 // An entry of a lent state as a row number; one that is too large becomes a number that no row has.
@@ -47,11 +60,12 @@ fn held_entry(held: Held) -> u64
 }
 
 // A reply put into a lent answer: the row, and the duty or the mark for idle.
-pub fn put_reply(answer: &mut [u64], row: Row, held: Held)
+pub fn put_reply(answer: &mut [u64], reply: Reply)
     requires { ⌜ 2 ≤ length (now answer) ⌝ }
-    ensures { λ r. ⌜ now (answer .exit) ≡ over (replyEntries (record { held = held; row = row })) (now (answer .entry)) ⌝ }
+    ensures { λ r. ⌜ now (answer .exit) ≡ over (replyEntries reply) (now (answer .entry)) ⌝ }
 {
-    answer[0] = row.0 as u64;
+    let held = reply.held;
+    answer[0] = reply.row.0 as u64;
     answer[1] = held_entry(held);
 }
 

@@ -8,13 +8,13 @@ use Rattle.paper.specs.declared.Fault.{Fault}
 use Rattle.paper.specs.declared.Reading.{Reading}
 use Rattle.paper.specs.declared.Judged.{Judged}
 use Rattle.paper.specs.declared.Judged.the-variants.{Accepted, Bad}
-use Rattle.paper.specs.Outcome.{refused, answer, andThen, faultNumber, faultPlace, judgedAs}
+use Rattle.paper.specs.Outcome.{refused, answer, andThen, refusedAs, refusalOf, judgedAs}
 use Rattle.paper.specs.Bytes.{small, parse}
 use Rattle.paper.specs.Rules.{judgeTable, accepted, readingOf, judged}
 use Rattle.paper.proofs.Outcomes.{answer-one, then-refused, then-answer}
 use Rattle.table_laws.proofs.Accepted.{accepted-read}
 use Rattle.record_read.specs.Formed.{Formed, tableOf}
-use Rattle.table_form.proofs.Formed.{formed}
+use Rattle.table_form.proofs.GoodForm.{formed}
 use Rattle.judge.specs.AcceptedAs.{AcceptedAs}
 
 -- fault 10 is the judge's
@@ -43,6 +43,6 @@ unfolding accepted
 accepted-table b rd A = rw (A .formed .parsed) (A .met)
 
 -- a fault: nothing is accepted
-pub refused-as : (b : List ℕ) (r : Judged) (f : Fault) → judgedAs r ≡ judged b → r ≡ Bad f → accepted b ≡ refused (faultNumber f) (faultPlace f)
+pub refused-as : (b : List ℕ) (r : Judged) (f : Fault) → judgedAs r ≡ judged b → r ≡ Bad f → accepted b ≡ refusedAs (refusalOf f)
 unfolding judged
-refused-as b r f e q = then-refused (accepted b) readingOf (faultNumber f) (faultPlace f) (sym e ∙ ap judgedAs q)
+refused-as b r f e q = then-refused (accepted b) readingOf _ _ (sym e ∙ ap judgedAs q)

@@ -5,13 +5,14 @@ use Prim.Native.Nat.{ℕ}
 use mathlib.Core.Path.{_≡_}
 use mathlib.Core.List.{List}
 use Rattle.paper.specs.declared.Fault.{Fault}
+use Rattle.paper.specs.declared.Refusal.{Refusal}
 use Rattle.paper.specs.declared.Reading.{Reading}
 use Rattle.paper.specs.declared.Judged.{Judged}
 use Rattle.paper.specs.declared.Judged.the-variants.{Accepted, Bad}
 use Rattle.paper.specs.Words.{Table}
 use Rattle.paper.specs.Bytes.{small}
 use Rattle.paper.specs.Statements.{Ranged}
-use Rattle.paper.specs.Outcome.{Outcome, refused, andThen, faultNumber, faultPlace, judgedAs}
+use Rattle.paper.specs.Outcome.{Outcome, andThen, refusedAs, refusalOf, judgedAs}
 use Rattle.paper.specs.Rules.{accepted, judged}
 use Rattle.table_laws.proofs.Accepted.{accepted-iff, ranged-long}
 use Rattle.record_read.specs.Formed.{tableOf}
@@ -32,6 +33,6 @@ pub asked-accepted : {B : Type 0} (b : List ℕ) {r : Judged} {rd : Reading} (f 
 asked-accepted b {r} {rd} f e q = rw (accepted-table b rd (accepted-as b r rd e q))
 
 -- a fault: whatever is asked is refused with its number and place
-pub asked-refused : {B : Type 0} (b : List ℕ) {r : Judged} {x : Fault} {n p : ℕ} (f : Table → Outcome B) → judgedAs r ≡ judged b → r ≡ Bad x → n ≡ faultNumber x → p ≡ faultPlace x
-    → _≡_ {A = Outcome B} (refused n p) (andThen (accepted b) f)
-asked-refused b {r} {x} f e q m l = rw (refused-as b r x e q, m, l)
+pub asked-refused : {B : Type 0} (b : List ℕ) {r : Judged} {x : Fault} {why : Refusal} (f : Table → Outcome B) → judgedAs r ≡ judged b → r ≡ Bad x
+    → (why .number ≡ refusalOf x .number) × (why .place ≡ refusalOf x .place) → _≡_ {A = Outcome B} (refusedAs why) (andThen (accepted b) f)
+asked-refused b {r} {x} f e q m = rw (refused-as b r x e q, m .0, m .1)

@@ -1,4 +1,3 @@
 pub mod Accepted
 pub mod Asked
 mod OneForm
-pub mod Unique

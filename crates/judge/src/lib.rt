@@ -1,6 +1,6 @@
 // The judge of tables: the form of the bytes, then the rules. One pass over the runs serves the judge and those who ask on.
 ghost use mathlib.Core.Path.{_≡_};
-ghost use Rattle.paper.specs.Outcome.{refused, answer, andThen, judgedAs, faultNumber, faultPlace};
+ghost use Rattle.paper.specs.Outcome.{refused, answer, andThen, judgedAs, refusalOf};
 ghost use Rattle.paper.specs.Rules.{judged, judgeTable, readingOf};
 ghost use Rattle.record_read.specs.Formed.{Formed, tableOf};
 ghost use Rattle.table_tally.specs.Tally.{unitsIn};
@@ -11,6 +11,7 @@ use judge_runs::judge_runs;
 use paper::Fault;
 use paper::Judged;
 use paper::Reading;
+use paper::Refusal;
 use table_form::Form;
 use table_form::form_of;
 use table_tally::tally_of;
@@ -87,34 +88,42 @@ pub fn judge(b: &[u8]) -> Judged
     rule_on(b).judged
 }
 
-// A fault's number.
-pub fn number_of(fault: Fault) -> u32
-    ensures { λ r. ⌜ r ≡ faultNumber fault ⌝ }
+// A fault as a refusal: its number, and its offset, duty or run.
+pub fn refusal_of(fault: Fault) -> Refusal
+    ensures { λ r. ⌜ (r .number ≡ refusalOf fault .number) × (r .place ≡ refusalOf fault .place) ⌝ }
 {
     match fault {
-        Fault::Form(_) => 10,
-        Fault::BlockLength => 11,
-        Fault::Slice(_) => 12,
-        Fault::Order(_) => 13,
-        Fault::Overlap(_) => 14,
-        Fault::Joint(_) => 15,
-        Fault::Twice(_) => 16,
-        Fault::Service(_) => 17,
-    }
-}
-
-// A fault's place: an offset, a duty or a run.
-pub fn place_of(fault: Fault) -> usize
-    ensures { λ r. ⌜ r ≡ faultPlace fault ⌝ }
-{
-    match fault {
-        Fault::Form(at) => at,
-        Fault::BlockLength => 0,
-        Fault::Slice(d) => d,
-        Fault::Order(k) => k,
-        Fault::Overlap(k) => k,
-        Fault::Joint(k) => k,
-        Fault::Twice(k) => k,
-        Fault::Service(d) => d,
+        Fault::Form(at) => Refusal {
+            number: 10,
+            place: at,
+        },
+        Fault::BlockLength => Refusal {
+            number: 11,
+            place: 0,
+        },
+        Fault::Slice(d) => Refusal {
+            number: 12,
+            place: d,
+        },
+        Fault::Order(k) => Refusal {
+            number: 13,
+            place: k,
+        },
+        Fault::Overlap(k) => Refusal {
+            number: 14,
+            place: k,
+        },
+        Fault::Joint(k) => Refusal {
+            number: 15,
+            place: k,
+        },
+        Fault::Twice(k) => Refusal {
+            number: 16,
+            place: k,
+        },
+        Fault::Service(d) => Refusal {
+            number: 17,
+            place: d,
+        },
     }
 }

@@ -7,7 +7,8 @@ use lib.ListN.{length, drop, length-map, List·getD-map}
 use Rattle.laws.specs.Divisor.{gcd, gcdOf}
 use Rattle.laws.proofs.Divisor.{gcd-start, gcd-further, gcd-finished}
 use Rattle.paper.specs.declared.Duty.{Duty}
-use Rattle.paper.specs.Words.{duty, dutyAt, blockLengthOf}
+use Rattle.paper.specs.Duties.{duty, dutyAt}
+use Rattle.paper.specs.Words.{blockLengthOf}
 
 -- the periods of the duties from d on
 abbrev pub periodsFrom : ℕ → List Duty → List ℕ

@@ -1,7 +1,7 @@
 -- A Bool, a test or an order taken apart, with what is then known.
 -- Assumes nothing.
 use Prim.Native.Nat.{ℕ, _≤_, _<_}
-use mathlib.Core.Path.{_≡_, refl, sym}
+use mathlib.Core.Path.{_≡_, refl, sym, ap, _∙_}
 use mathlib.Core.Bool.{Bool, true, false, _&&_}
 use native.Mathlib.Nat.{le-antisymm}
 use native.Mathlib.Omega.{arith}
@@ -50,3 +50,7 @@ both-ways false b f g = sym (refuted b (λ p. not-both (g p) refl))
 -- the test of an equation is that of the equation turned round
 pub eqb-sym : (i j : ℕ) → eqb i j ≡ eqb j i
 eqb-sym i j = both-ways (eqb i j) (eqb j i) (λ p. eq-eqb j i (sym (eqb-true i j p))) (λ p. eq-eqb i j (sym (eqb-true j i p)))
+
+-- a function with a way back takes no two things to one
+pub one-to-one : {A B : Type 0} (f : A → B) (back : B → A) → ((x : A) → back (f x) ≡ x) → {x y : A} → f x ≡ f y → x ≡ y
+one-to-one f back h {x} {y} e = sym (h x) ∙ ap back e ∙ h y

@@ -8,7 +8,7 @@ use lib.ListN.{length, getD, take, drop, length-append}
 use Rattle.laws.specs.Lists.{flat, over}
 use Rattle.laws.proofs.Lists.{flat-left, flat-none}
 use Rattle.laws.proofs.Each.{Each}
-use Rattle.laws.proofs.Writing.{Wrote, start, more, next, moved, room, all-written}
+use Rattle.laws.proofs.Writing.{Wrote, unwritten, more, next, moved, room, all-written}
 
 -- i of the entries are written over the front of l, up to the place `at`
 pub record Listing {A : Type 0} (f : A → List ℕ) (items : List A) (l xs : List ℕ) (at i : ℕ) : Type 0 where
@@ -17,7 +17,7 @@ pub record Listing {A : Type 0} (f : A → List ℕ) (items : List A) (l xs : Li
   pub wrote : Wrote (flat f items) l (flat f (drop i items)) xs at
 
 pub listing-start : {A : Type 0} (f : A → List ℕ) (items : List A) (l : List ℕ) → Listing f items l l 0 0
-listing-start f items l = record { within = omega arith; long = refl; wrote = start (flat f items) l }
+listing-start f items l = record { within = omega arith; long = refl; wrote = unwritten (flat f items) l }
 
 -- the place is not past the end of all
 pub listing-at : {A : Type 0} {f : A → List ℕ} {items : List A} {l xs : List ℕ} {at i : ℕ} → Listing f items l xs at i → at ≤ length (flat f items)

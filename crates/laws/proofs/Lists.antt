@@ -80,10 +80,7 @@ pub sumOf-step : (x : ℕ) (xs : List ℕ) → sumOf (x ∷ xs) ≡ x + sumOf xs
 unfolding sumOf
 sumOf-step x xs = refl
 
--- what is left to add, one entry further
-pub sumOf-drop : (l : List ℕ) (k : ℕ) → k < length l → sumOf (drop k l) ≡ getD l k 0 + sumOf (drop (k + 1) l)
-sumOf-drop l k h = rw (add-one, drop-cons l k 0) (sumOf-step (getD l k 0) (drop (suc k) l))
-
+-- past the last entry nothing is left to add
 pub sumOf-done : (l : List ℕ) (k : ℕ) → length l ≤ k → sumOf (drop k l) ≡ 0
 unfolding sumOf
 sumOf-done l k h = rw (drop-of-length-le l h)

@@ -1,4 +1,4 @@
--- What stands at a place of a list: `Holds b at p` says that b has the entries p from `at` on. The parts of what stands
+-- What stands at a place of a list: `HasPart b at p` says that b has the entries p from `at` on. The parts of what stands
 -- there stand at their own places, a number's bytes read as the number, and the k-th of equally long records stands k
 -- lengths on. The other way round, parts cut out one after the other join to what was cut.
 -- Assumes nothing.
@@ -14,25 +14,25 @@ use Rattle.laws.specs.Lists.{flat, tab}
 use Rattle.laws.specs.Digits.{digits, numAt}
 use Rattle.laws.proofs.Digits.{numAt-after, numAt-digits}
 
-pub record Holds (b : List ℕ) (at : ℕ) (p : List ℕ) : Type 0 where
+pub record HasPart (b : List ℕ) (at : ℕ) (p : List ℕ) : Type 0 where
   pub before : List ℕ
   pub after : List ℕ
   pub is : b ≡ before ++ (p ++ after)
   pub long : length before ≡ at
 
 -- a list holds itself
-pub holds-all : (b : List ℕ) → Holds b 0 b
+pub holds-all : (b : List ℕ) → HasPart b 0 b
 holds-all b = record { before = []; after = []; is = sym (append-nil b); long = refl }
 
 -- the same place said otherwise
-pub holds-at : {b p : List ℕ} (at at′ : ℕ) → at ≡ at′ → Holds b at p → Holds b at′ p
+pub holds-at : {b p : List ℕ} (at at′ : ℕ) → at ≡ at′ → HasPart b at p → HasPart b at′ p
 holds-at {b} {p} at at′ e h = rw (← e) h
 
 -- the first part stands at the same place, the second after it
-pub holds-left : {b : List ℕ} {at : ℕ} (p q : List ℕ) → Holds b at (p ++ q) → Holds b at p
+pub holds-left : {b : List ℕ} {at : ℕ} (p q : List ℕ) → HasPart b at (p ++ q) → HasPart b at p
 holds-left p q h = record { before = h .before; after = q ++ h .after; is = h .is ∙ rw append-assoc; long = h .long }
 
-pub holds-right : {b : List ℕ} {at : ℕ} (p q : List ℕ) → Holds b at (p ++ q) → Holds b (at + length p) q
+pub holds-right : {b : List ℕ} {at : ℕ} (p q : List ℕ) → HasPart b at (p ++ q) → HasPart b (at + length p) q
 holds-right p q h =
     record {
       before = h .before ++ p;
@@ -42,27 +42,27 @@ holds-right p q h =
     }
 
 -- it is within the list
-pub holds-room : {b : List ℕ} {at : ℕ} (p : List ℕ) → Holds b at p → at + length p ≤ length b
+pub holds-room : {b : List ℕ} {at : ℕ} (p : List ℕ) → HasPart b at p → at + length p ≤ length b
 holds-room p h = rw (h .is) (simp length-append (omega (arith, h .long)))
 
 -- the first entry is the list's at that place
-pub holds-first : {b : List ℕ} {at : ℕ} (x : ℕ) (p : List ℕ) → Holds b at (x ∷ p) → getD b at 0 ≡ x
+pub holds-first : {b : List ℕ} {at : ℕ} (x : ℕ) (p : List ℕ) → HasPart b at (x ∷ p) → getD b at 0 ≡ x
 holds-first {b} {at} x p h = rw (h .is, ← h .long, ← add-zero (length (h .before))) (getD-append-add (h .before) (x ∷ p ++ h .after) 0 0)
 
 -- the bytes of a number read as the number
-pub holds-num : {b : List ℕ} {at : ℕ} (k v : ℕ) → Holds b at (digits k v) → v < 256 ^ k → numAt k b at ≡ v
+pub holds-num : {b : List ℕ} {at : ℕ} (k v : ℕ) → HasPart b at (digits k v) → v < 256 ^ k → numAt k b at ≡ v
 holds-num {b} {at} k v h l =
     rw (h .is, ← h .long, ← add-zero (length (h .before)))
     (numAt-after k (h .before) (digits k v ++ h .after) 0 ∙ numAt-digits k v (h .after) l)
 
 -- and so do those that stand after p
-pub holds-field : {b : List ℕ} {at : ℕ} (p : List ℕ) (k v place : ℕ) → Holds b at (p ++ digits k v) → at + length p ≡ place → v < 256 ^ k → numAt k b place ≡ v
+pub holds-field : {b : List ℕ} {at : ℕ} (p : List ℕ) (k v place : ℕ) → HasPart b at (p ++ digits k v) → at + length p ≡ place → v < 256 ^ k → numAt k b place ≡ v
 holds-field {b} {at} p k v place h e l = holds-num k v (holds-at (at + length p) place e (holds-right p (digits k v) h)) l
 
 -- of records of s entries each, the k-th stands k records on
 pub holds-flat :
     {A : Type 0} {b : List ℕ} (f : A → List ℕ) (s : ℕ) → ((x : A) → length (f x) ≡ s) → (d : A) (xs : List A) (at k : ℕ) → k < length xs
-    → Holds b at (flat f xs) → Holds b (at + s * k) (f (getD xs k d))
+    → HasPart b at (flat f xs) → HasPart b (at + s * k) (f (getD xs k d))
 unfolding flat
 holds-flat f s e d [] at k l h = absurd (not-suc-le-zero l)
 holds-flat f s e d (x ∷ xs) at zero l h = holds-at at (at + s * 0) (omega arith) (holds-left (f x) (flat f xs) h)

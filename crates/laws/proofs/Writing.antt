@@ -36,8 +36,8 @@ pub record Wrote (W l rest xs : List ℕ) (a : ℕ) : Type 0 where
   pub left : w ++ rest ≡ W
 
 -- nothing is written yet
-pub start : (W l : List ℕ) → Wrote W l W l 0
-start W l = record { w = []; len = refl; is = sym (over-nothing l); left = refl }
+pub unwritten : (W l : List ℕ) → Wrote W l W l 0
+unwritten W l = record { w = []; len = refl; is = sym (over-nothing l); left = refl }
 
 -- after a call that was lent the buffer from a on, and wrote p over its front
 pub more : (W l rest xs p ys : List ℕ) (a : ℕ) → Wrote W l (p ++ rest) xs a → ys ≡ over p (take (length xs - a) (drop a xs)) → Wrote W l rest (take a xs ++ (ys ++ drop (length xs - a) (drop a xs))) (a + length p)

@@ -11,7 +11,7 @@ use Rattle.laws.proofs.Writing.{Wrote}
 use Rattle.laws.proofs.Listing.{flat-most}
 use Rattle.paper.specs.Text.{printLine}
 use Rattle.number_print.specs.Spaced.{spaced}
-use Rattle.number_print.specs.Puts.{Puts}
+use Rattle.paper.specs.Outcome.{Puts}
 use Rattle.number_print.proofs.Decimal.{count-most}
 
 -- where the word stands, the numbers and the line feed are left
@@ -31,7 +31,9 @@ line-room word numbers room n h e = omega (arith, line-length word numbers)
 
 -- a line of numbers below 10^d
 pub line-most : (d : ℕ) (word numbers : List ℕ) → Each (λ n. n < 10 ^ suc d) numbers → length (printLine word numbers) ≤ length word + (2 + d) * length numbers + 1
-line-most d word numbers h = omega (arith, line-length word numbers, flat-most spaced (2 + d) numbers (each-map (λ n. n < 10 ^ suc d) (λ n. length (spaced n) ≤ 2 + d) (λ n l. omega (arith, count-most d 20 n l)) numbers h))
+line-most d word numbers h =
+    let each = each-map (λ n. n < 10 ^ suc d) (λ n. length (spaced n) ≤ 2 + d) (λ n l. omega (arith, count-most d 20 n l)) numbers h in
+    omega (arith, line-length word numbers, flat-most spaced (2 + d) numbers each)
 
 -- what was put is no longer than the buffer
 pub puts-fits : (w l xs : List ℕ) (n : ℕ) → Puts w l xs n → n ≤ length xs

@@ -9,7 +9,7 @@ use native.Mathlib.Omega.{arith}
 use lib.ListN.{length, take, drop, length-drop}
 use Rattle.laws.proofs.Cases.{lt-or-le, not-both, and-left, and-right}
 use Rattle.laws.proofs.Writing.{lent-rest}
-use Rattle.paper.specs.Words.{duty}
+use Rattle.paper.specs.Duties.{duty}
 use Rattle.paper.specs.Text.{isNumber, value, spaceIn, dutyLineGood, dutyRead}
 use Rattle.number_read.proofs.Numbers.{number-none}
 
@@ -25,9 +25,10 @@ unfolding dutyLineGood
 duty-good c k e = rw (lent-rest (k + 1) c, e)
 
 -- a good line's space is inside it, and both parts are numbers
-pub duty-parts :
-    (c : List ℕ) (k : ℕ) → k ≡ spaceIn c → dutyLineGood c ≡ true
-    → (k + 1 ≤ length c) × (isNumber (take k c) ≡ true) × (isNumber (take (length c - (k + 1)) (drop (k + 1) c)) ≡ true)
+abbrev pub Parts : List ℕ → ℕ → Type 0
+Parts c k = (k + 1 ≤ length c) × (isNumber (take k c) ≡ true) × (isNumber (take (length c - (k + 1)) (drop (k + 1) c)) ≡ true)
+
+pub duty-parts : (c : List ℕ) (k : ℕ) → k ≡ spaceIn c → dutyLineGood c ≡ true → Parts c k
 duty-parts c k e p =
     let before = isNumber (take k c) in
     let after = isNumber (take (length c - (k + 1)) (drop (k + 1) c)) in

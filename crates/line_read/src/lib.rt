@@ -8,7 +8,7 @@ ghost use Rattle.laws.specs.Search.{first};
 ghost use Rattle.paper.specs.Text.{isDash, engineLineGood, enginesRead, dutyLineGood, dutyRead};
 ghost use Rattle.line_read.specs.Line.{firstGood, lineGood};
 use number_read::is_number;
-use number_read::number_of;
+use number_read::value_of;
 use paper::Duty;
 
 // The first place of a byte, or the length where it is not there.
@@ -52,7 +52,7 @@ pub fn engines_read(c: &[u8]) -> u32
     requires { ⌜ engineLineGood (now c) ≡ true ⌝ }
     ensures { λ r. ⌜ r ≡ enginesRead (now (c .entry)) ⌝ }
 {
-    if is_dash(c) { 4 } else { number_of(c) }
+    if is_dash(c) { 4 } else { value_of(c) }
 }
 
 // Whether a line is a service and a period with one space between.
@@ -72,8 +72,8 @@ pub fn duty_read(c: &[u8]) -> Duty
     ensures { λ r. ⌜ r ≡ dutyRead (now (c .entry)) ⌝ }
 {
     let space = find(c, 32);
-    let service = number_of(&c[..space]);
-    let period = number_of(&c[space + 1..]);
+    let service = value_of(&c[..space]);
+    let period = value_of(&c[space + 1..]);
     Duty { service, period }
 }
 

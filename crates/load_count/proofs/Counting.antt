@@ -8,7 +8,7 @@ use native.Mathlib.Nat.{mul-le-mul}
 use native.Mathlib.Omega.{arith}
 use Rattle.paper.specs.declared.Reading.{Reading}
 use Rattle.paper.specs.declared.Judged.the-variants.{Accepted}
-use Rattle.paper.specs.Schedule.{loads}
+use Rattle.paper.specs.Walk.{loads}
 use Rattle.paper.specs.Bytes.{small}
 use Rattle.paper.specs.Answers.{mostBlocks}
 use Rattle.paper.proofs.Loads.{carried}
@@ -21,7 +21,7 @@ use Rattle.judge.specs.Ready.{Ready}
 use Rattle.judge.proofs.Asked.{ready}
 use Rattle.carried_over.specs.Carried.{carriedOf}
 use Rattle.carried_over.proofs.Carrying.{carried-read, later-read}
-use Rattle.load_count.specs.Told.{loadsBy}
+use Rattle.load_count.specs.ByRuns.{loadsBy}
 
 module _ (b : List ℕ) {r : Ruling} {rd : Reading} (R : Ruled b r) (q : r .judged ≡ Accepted rd) where
   pub asked : Ready b rd

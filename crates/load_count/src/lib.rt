@@ -1,23 +1,18 @@
 // The count of loads. The bytes are judged first; after that nothing looks at the runs, and nothing walks over blocks or ticks.
 ghost use mathlib.Core.Path.{_≡_};
 ghost use Prim.Native.Nat.{_+_, _-_, _*_, _≤_};
-ghost use Rattle.paper.specs.Answers.{counted, mostBlocks};
+ghost use Rattle.paper.specs.Answers.{counted, countAs, mostBlocks};
 ghost use Rattle.carried_over.specs.Carried.{carriedOf};
-ghost use Rattle.load_count.specs.Told.{countAs, loadsBy, countBy};
+ghost use Rattle.load_count.specs.ByRuns.{loadsBy, countBy};
 use carried_over::carried;
-use judge::number_of;
-use judge::place_of;
+use judge::refusal_of;
 use judge::rule_on;
+use paper::Counted;
 use paper::Judged;
 use paper::Reading;
+use paper::Refusal;
 
 const MOST_BLOCKS: u64 = 1000000000000;
-
-// How many loads there are, or a refusal.
-pub enum Counted {
-    Loads(u64),
-    Refused(u32, usize),
-}
 
 // The loads of some blocks: so many in the first, and in each later one but for those that are kept over the boundary.
 fn over_blocks(blocks: u64, loads: u64, kept: u64) -> u64
@@ -45,7 +40,10 @@ fn count_in(rd: Reading, starts: &[u32; 33], ends: &[u32; 33], blocks: u64) -> C
     ensures { λ r. ⌜ countAs r ≡ countBy (rd .runs) (carriedOf (now (starts .entry)) (now (ends .entry)) (rd .engines)) blocks ⌝ }
 {
     if MOST_BLOCKS < blocks {
-        return Counted::Refused(19, 0);
+        return Counted::Refused(Refusal {
+            number: 19,
+            place: 0,
+        });
     }
     Counted::Loads(loads_in(rd, starts, ends, blocks))
 }
@@ -60,6 +58,6 @@ pub fn count(b: &[u8], blocks: u64) -> Counted
     let judged = ruling.judged;
     match judged {
         Judged::Accepted(rd) => count_in(rd, &starts, &ends, blocks),
-        Judged::Bad(fault) => Counted::Refused(number_of(fault), place_of(fault)),
+        Judged::Bad(fault) => Counted::Refused(refusal_of(fault)),
     }
 }

@@ -58,7 +58,8 @@ last-all (suc k) n h =
     lt-or-le n 10
     (λ l. let one : decimalIn (suc k) n ≡ (48 + n) ∷ [] = decimal-one k n l in
     rw (count-one k n l, one, mod-eq-of-lt l))
-    (λ l. rw (count-more k n l, add-one) (decimal-more k n l ∙ ap (λ (t : List ℕ). t ++ ((48 + n % 10) ∷ [])) (last-all k (n / 10) (quotient-below 10 k n (omega arith) h))))
+    (λ l. let rest = last-all k (n / 10) (quotient-below 10 k n (omega arith) h) in
+    rw (count-more k n l, add-one) (decimal-more k n l ∙ ap (λ (t : List ℕ). t ++ ((48 + n % 10) ∷ [])) rest))
 
 -- ---- counting the digits by division
 

@@ -1,2 +1,1 @@
 pub mod Spaced
-pub mod Puts

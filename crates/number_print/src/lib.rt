@@ -3,7 +3,7 @@ ghost use mathlib.Core.Path.{_≡_};
 ghost use Prim.Native.Nat.{_≤_};
 ghost use lib.ListN.{length};
 ghost use Rattle.paper.specs.Text.{decimal};
-ghost use Rattle.number_print.specs.Puts.{Puts};
+ghost use Rattle.paper.specs.Outcome.{Puts};
 ghost use Rattle.number_print.specs.Spaced.{spaced};
 
 // How many digits a number has in decimal.
@@ -20,7 +20,7 @@ fn digit_count(n: u64) -> usize
 }
 
 // A space and a number: the digits are stored from the last to the first.
-pub fn put_number(out: &mut [u8], n: u64) -> usize
+pub fn print_number(out: &mut [u8], n: u64) -> usize
     requires { ⌜ length (spaced n) ≤ length (now out) ⌝ }
     ensures { λ r. ⌜ Puts (spaced n) (now (out .entry)) (now (out .exit)) r ⌝ }
 {

@@ -36,7 +36,7 @@ pub fn is_number(c: &[u8]) -> bool
 }
 
 // The number that the bytes write. Nine digits fit 32 bits.
-pub fn number_of(c: &[u8]) -> u32
+pub fn value_of(c: &[u8]) -> u32
     requires { ⌜ isNumber (now c) ≡ true ⌝ }
     ensures { λ r. ⌜ r ≡ value (now (c .entry)) ⌝ }
 {

@@ -1,7 +1,7 @@
 -- What is asked of an accepted table, and what comes back. The table in the bytes is the judge's answer, so each call goes on with it; a
 -- state made for a block has that block's rows, so it passes its test and the next is made for the next block.
 -- Assumes nothing.
-use Prim.Native.Nat.{ℕ, zero, suc, _+_, _-_, _/_, _^_, _≤_, _<_}
+use Prim.Native.Nat.{ℕ, zero, suc, _+_, _-_, _^_, _≤_, _<_}
 use mathlib.Core.Path.{_≡_}
 use mathlib.Core.List.{List}
 use native.Mathlib.Omega.{arith}
@@ -10,10 +10,11 @@ use Rattle.laws.proofs.Lists.{same-list-refl, same-list-not}
 use Rattle.paper.specs.declared.Engine.{Engine}
 use Rattle.paper.specs.Words.{Table}
 use Rattle.paper.specs.Rotation.{link, rowAt}
-use Rattle.paper.specs.Schedule.{walk, loads}
+use Rattle.paper.specs.Walk.{loads}
 use Rattle.paper.specs.Outcome.{Outcome, refused, answer, andThen}
 use Rattle.paper.specs.Rules.{accepted}
-use Rattle.paper.specs.Answers.{State, rowsAt, stateAt, mostBlocks, question, start, rowTold, advanced, counted}
+use Rattle.paper.specs.declared.State.{State}
+use Rattle.paper.specs.Answers.{replyOf, rowsAt, stateAt, mostBlocks, question, start, rowTold, advanced, counted}
 
 -- the state after n boundaries more
 unfoldable pub advancedBy : List ℕ → ℕ → State → Outcome State
@@ -22,7 +23,7 @@ advancedBy b (suc n) s = andThen (advancedBy b n s) (advanced b)
 
 module _ (b : List ℕ) (t : Table) (h : accepted b ≡ answer t) where
   -- the question tells what the walk runs, and the row
-  pub question-is : (e : Engine) (k : ℕ) → e .0 < t .engines → question b e k ≡ answer (record { held = walk t e k; row = rowAt (link t) (k / t .ticks) e })
+  pub question-is : (e : Engine) (k : ℕ) → e .0 < t .engines → question b e k ≡ answer (replyOf t e k)
   unfolding question
   question-is e k l = rw (h, lt-ltb (e .0) (t .engines) l)
 

@@ -14,13 +14,16 @@ use Rattle.laws.specs.Lists.{tab, flat, sumOf}
 use Rattle.laws.specs.Digits.{digits}
 use Rattle.laws.proofs.Each.{Each, each-at}
 use Rattle.paper.specs.declared.Run.{Run}
-use Rattle.paper.specs.Words.{run, Table, covers, heldIn, same, whole, slice, blockLengthOf}
+use Rattle.paper.specs.Duties.{same}
+use Rattle.paper.specs.Words.{run, Table, covers, heldIn, whole, slice, blockLengthOf}
 use Rattle.paper.specs.Sa1.{sa1, lay, layOne, rowAfter, unitAfter}
 use Rattle.paper.specs.Rotation.{link, firstOf, nextOf, rowAt, chainLength, chainsBelow}
-use Rattle.paper.specs.Schedule.{walk, load, loadsIn, loads}
+use Rattle.paper.specs.Walk.{walk, loads}
+use Rattle.paper.specs.Schedule.{load, loadsIn}
 use Rattle.paper.specs.Outcome.{refused, answer}
 use Rattle.paper.specs.Bytes.{encode, headBytes, dutyBytes, runBytes, endBytes}
-use Rattle.paper.specs.Builder.{dutiesOf, plan, planDuties, planAt, badRange, badSlice}
+use Rattle.paper.specs.Wanted.{dutiesOf, badRange, inRange, taken}
+use Rattle.paper.specs.Builder.{plan, planAt, badSlice}
 use Rattle.paper.specs.Text.{planText, printLine, decimalIn}
 use Rattle.paper.specs.Cases.{Case, Says, prints, p1Text, LoadsThen, pieces, outcome, Holds, p1, p2, p3, p4, p5, p6, p7, p8, p9, p10, cases, caseAt}
 use Rattle.paper.proofs.Links.{Closed}
@@ -29,39 +32,39 @@ use Rattle.paper.proofs.Loads.{later, loads-more, loads-closed, later-i
 -- ---- the tables
 
 -- a set's table, by its block length and its runs
-abbrev tableOf : Case → ℕ → List Run → Table
-tableOf c t xs = record { ticks = t; engines = c .engines; duties = c .duties; runs = xs }
+abbrev tableFor : Case → ℕ → List Run → Table
+tableFor c t xs = record { ticks = t; engines = c .engines; duties = c .duties; runs = xs }
 
 abbrev t1 : Table
-t1 = tableOf p1 3 (run 0 0 0 2 ∷ run 0 1 2 1 ∷ run 1 1 0 1 ∷ run 1 2 1 2 ∷ [])
+t1 = tableFor p1 3 (run 0 0 0 2 ∷ run 0 1 2 1 ∷ run 1 1 0 1 ∷ run 1 2 1 2 ∷ [])
 
 abbrev t2 : Table
-t2 = tableOf p2 1 (run 0 0 0 1 ∷ [])
+t2 = tableFor p2 1 (run 0 0 0 1 ∷ [])
 
 abbrev t3 : Table
-t3 = tableOf p3 2 (run 0 0 0 1 ∷ run 0 1 1 1 ∷ [])
+t3 = tableFor p3 2 (run 0 0 0 1 ∷ run 0 1 1 1 ∷ [])
 
 abbrev t6 : Table
-t6 = tableOf p6 3 (run 0 0 0 3 ∷ run 1 1 0 2 ∷ [])
+t6 = tableFor p6 3 (run 0 0 0 3 ∷ run 1 1 0 2 ∷ [])
 
 abbrev t7 : Table
-t7 = tableOf p7 3 (run 0 0 0 1 ∷ run 0 1 1 2 ∷ run 1 1 0 1 ∷ run 1 2 1 1 ∷ [])
+t7 = tableFor p7 3 (run 0 0 0 1 ∷ run 0 1 1 2 ∷ run 1 1 0 1 ∷ run 1 2 1 1 ∷ [])
 
 abbrev t8 : Table
-t8 = tableOf p8 10 (run 0 0 0 7 ∷ run 0 1 7 3 ∷ run 1 1 0 1 ∷ run 1 2 1 5 ∷ run 1 3 6 4 ∷ run 2 4 0 2 ∷ run 2 5 2 7 ∷ run 2 6 9 1 ∷ run 3 6 0 1 ∷ run 3 7 1 9 ∷ [])
+t8 = tableFor p8 10 (run 0 0 0 7 ∷ run 0 1 7 3 ∷ run 1 1 0 1 ∷ run 1 2 1 5 ∷ run 1 3 6 4 ∷ run 2 4 0 2 ∷ run 2 5 2 7 ∷ run 2 6 9 1 ∷ run 3 6 0 1 ∷ run 3 7 1 9 ∷ [])
 
 abbrev t9 : Table
-t9 = tableOf p9 4 (run 0 0 0 3 ∷ run 0 1 3 1 ∷ run 1 1 0 2 ∷ run 1 2 2 2 ∷ run 2 2 0 1 ∷ run 2 3 1 3 ∷ [])
+t9 = tableFor p9 4 (run 0 0 0 3 ∷ run 0 1 3 1 ∷ run 1 1 0 2 ∷ run 1 2 2 2 ∷ run 2 2 0 1 ∷ run 2 3 1 3 ∷ [])
 
 -- the builder makes them ..
 made : (outcome p1 ≡ answer t1) × (outcome p2 ≡ answer t2) × (outcome p3 ≡ answer t3) × (outcome p6 ≡ answer t6)
     × (outcome p7 ≡ answer t7) × (outcome p8 ≡ answer t8) × (outcome p9 ≡ answer t9)
-unfolding plan planDuties planAt badRange badSlice sa1 lay layOne rowAfter unitAfter slice whole blockLengthOf gcdOf gcd euclid dutiesOf tab sumOf first
+unfolding plan taken inRange planAt badRange badSlice sa1 lay layOne rowAfter unitAfter slice whole blockLengthOf gcdOf gcd euclid dutiesOf tab sumOf first
 made = (refl, refl, refl, refl, refl, refl, refl)
 
 -- .. and refuses the others
 not-made : (outcome p4 ≡ refused 7 0) × (outcome p5 ≡ refused 6 0) × (outcome p10 ≡ refused 5 0)
-unfolding plan planDuties planAt badRange badSlice sa1 lay layOne rowAfter unitAfter slice whole blockLengthOf gcdOf gcd euclid dutiesOf tab sumOf first
+unfolding plan taken inRange planAt badRange badSlice sa1 lay layOne rowAfter unitAfter slice whole blockLengthOf gcdOf gcd euclid dutiesOf tab sumOf first
 not-made = (refl, refl, refl)
 
 -- ---- their loads

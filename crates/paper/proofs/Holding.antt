@@ -18,7 +18,8 @@ use Rattle.paper.specs.declared.Row.{Row}
 use Rattle.paper.specs.declared.Run.{Run}
 use Rattle.paper.specs.declared.Held.{Held}
 use Rattle.paper.specs.declared.Held.the-variants.{Idle, By}
-use Rattle.paper.specs.Words.{run, stop, covers, runAt, heldIn, same}
+use Rattle.paper.specs.Duties.{same}
+use Rattle.paper.specs.Words.{run, stop, covers, runAt, heldIn}
 use Rattle.paper.specs.Statements.{Has, Apart}
 
 -- a run covers a unit of a row where it is of the row and has the unit

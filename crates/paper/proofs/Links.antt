@@ -5,7 +5,8 @@ use Prim.Native.Nat.{ℕ, _+_, _-_, _≤_}
 use mathlib.Core.Path.{_≡_, refl, ap, _∙_}
 use mathlib.Core.Bool.{false}
 use native.Mathlib.Omega.{arith}
-use Rattle.paper.specs.Words.{row, Table, heldIn, same}
+use Rattle.paper.specs.Duties.{same}
+use Rattle.paper.specs.Words.{row, Table, heldIn}
 use Rattle.paper.specs.Rotation.{link, firstOf}
 use Rattle.paper.specs.Bytes.{Width}
 use Rattle.paper.specs.Statements.{Ranged}

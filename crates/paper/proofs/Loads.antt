@@ -18,9 +18,11 @@ use Rattle.laws.proofs.Sum.{sum-ext, sum-suc, sum-none, sum-one, sum-first, sum
 use Rattle.paper.specs.declared.Engine.{Engine}
 use Rattle.paper.specs.declared.Held.{Held}
 use Rattle.paper.specs.declared.Held.the-variants.{Idle, By}
-use Rattle.paper.specs.Words.{row, engine, Table, heldIn, same, busy}
+use Rattle.paper.specs.Duties.{engine, same, busy}
+use Rattle.paper.specs.Words.{row, Table, heldIn}
 use Rattle.paper.specs.Rotation.{link, nextOf, rowAt}
-use Rattle.paper.specs.Schedule.{Schedule, walk, load, loadsIn, loads}
+use Rattle.paper.specs.Walk.{walk, loads}
+use Rattle.paper.specs.Schedule.{Schedule, load, loadsIn}
 use Rattle.paper.proofs.Holding.{same-sym}
 use Rattle.paper.proofs.Links.{Closed, rows-end}
 use Rattle.paper.proofs.Rotation.{next-sum, row-next, row-sum}

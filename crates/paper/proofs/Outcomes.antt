@@ -2,12 +2,17 @@
 -- test after another, came to tells what the first came to.
 -- Assumes nothing.
 use Prim.Native.Nat.{ℕ}
-use mathlib.Core.Path.{_≡_, refl, sym}
+use mathlib.Core.Path.{_≡_, refl, sym, ap}
 use mathlib.Core.Bool.{Bool, true, false}
 use mathlib.Core.List.{List}
 use native.Mathlib.Omega.{arith}
+use lib.ListN.{length}
 use Rattle.laws.specs.Choice.{pick}
-use Rattle.paper.specs.Outcome.{Outcome, refused, answer, andThen, leaves}
+use Rattle.laws.specs.Lists.{over}
+use Rattle.paper.specs.declared.Refusal.{Refusal}
+use Rattle.paper.specs.declared.Written.{Written}
+use Rattle.paper.specs.declared.Written.the-variants.{Length, Refused}
+use Rattle.paper.specs.Outcome.{Outcome, refused, answer, andThen, refusedAs, leaves, Writes}
 
 -- an answer is no refusal
 pub answered : {A P : Type 0} (a : A) (n p : ℕ) → answer a ≡ refused n p → P
@@ -39,3 +44,17 @@ past false n p rest a h = (refl, h)
 -- "Refusals write nothing"
 pub refused-leaves : (n p : ℕ) (buffer : List ℕ) → leaves (refused n p) buffer ≡ buffer
 refused-leaves n p buffer = refl
+
+-- ---- whatever writes
+
+-- what is left by an outcome is left by an equal one
+pub writes-same : {o o′ : Outcome (List ℕ)} {r : Written} {before after : List ℕ} → o ≡ o′ → Writes o′ r before after → Writes o r before after
+writes-same e w = rw e w
+
+-- a refusal leaves the bytes
+pub writes-refused : {o : Outcome (List ℕ)} (x : Refusal) (l : List ℕ) → o ≡ refusedAs x → Writes o (Refused x) l l
+writes-refused x l e = rw e (record { said = refl; left = refl })
+
+-- an answer is the length of what is laid over them
+pub writes-length : {o : Outcome (List ℕ)} {n : ℕ} (w l after : List ℕ) → o ≡ answer w → length w ≡ n → after ≡ over w l → Writes o (Length n) l after
+writes-length w l after e f g = rw e (record { said = ap answer (sym f); left = g })

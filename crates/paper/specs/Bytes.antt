@@ -10,7 +10,8 @@ use Rattle.laws.specs.Lists.{tab, flat}
 use Rattle.laws.specs.Digits.{digits, numAt}
 use Rattle.paper.specs.declared.Duty.{Duty}
 use Rattle.paper.specs.declared.Run.{Run}
-use Rattle.paper.specs.Words.{duty, run, stop, Table}
+use Rattle.paper.specs.Duties.{duty}
+use Rattle.paper.specs.Words.{run, stop, Table}
 use Rattle.paper.specs.Outcome.{Outcome, refused, answer}
 
 -- the kinds, field lengths and ranges that a part's size decides

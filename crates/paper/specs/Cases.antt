@@ -2,7 +2,7 @@
 -- `proofs/CasesHold.antt` shows that all of them hold.
 use Prim.Native.Nat.{ℕ, _+_}
 use mathlib.Core.Path.{_≡_}
-use mathlib.Core.List.{List, [], _∷_, map}
+use mathlib.Core.List.{List, [], _∷_}
 use lib.Dec.{eqb}
 use lib.ListN.{length, getD}
 use Rattle.laws.specs.Choice.{pick}
@@ -13,12 +13,14 @@ use Rattle.paper.specs.declared.Duty.{Duty}
 use Rattle.paper.specs.declared.Run.{Run}
 use Rattle.paper.specs.declared.Held.{Held}
 use Rattle.paper.specs.declared.Held.the-variants.{Idle, By}
-use Rattle.paper.specs.Words.{row, engine, duty, run, Table}
+use Rattle.paper.specs.Duties.{engine, duty}
+use Rattle.paper.specs.Words.{row, run, Table}
 use Rattle.paper.specs.Sa1.{slices}
 use Rattle.paper.specs.Rotation.{Chain, link, rowAt, chains}
-use Rattle.paper.specs.Schedule.{walk, loads}
+use Rattle.paper.specs.Walk.{walk, loads}
 use Rattle.paper.specs.Outcome.{Outcome, refused, answer}
 use Rattle.paper.specs.Bytes.{small, encode}
+use Rattle.paper.specs.Wanted.{wantedOf}
 use Rattle.paper.specs.Builder.{plan}
 use Rattle.paper.specs.Text.{planText}
 
@@ -26,7 +28,7 @@ use Rattle.paper.specs.Text.{planText}
 
 pub data Fact : Type 0 where
   -- it is refused
-  refusal : (number place : ℕ) → Fact
+  refusedWith : (number place : ℕ) → Fact
   -- else there is a table: its block length, engines, duties and their slices
   blockLength : (ticks : ℕ) → Fact
   engineCount : ℕ → Fact
@@ -67,7 +69,7 @@ abbrev pub LoadsThen : Table → ℕ → ℕ → Type 0
 LoadsThen t a b = (loads t 1 ≡ a) × ((n : ℕ) → loads t (n + 2) ≡ loads t (n + 1) + b)
 
 abbrev pub Says : Outcome Table → Fact → Type 0
-Says o (refusal n p) = o ≡ refused n p
+Says o (refusedWith n p) = o ≡ refused n p
 Says o (blockLength n) = Gives o (λ t. t .ticks ≡ n)
 Says o (engineCount n) = Gives o (λ t. t .engines ≡ n)
 Says o (dutiesAre ds) = Gives o (λ t. t .duties ≡ ds)
@@ -90,7 +92,7 @@ pub record Case : Type 0 where
 
 -- what the builder makes of a set
 abbrev pub outcome : Case → Outcome Table
-outcome c = plan (c .engines) (map (λ x. x .service) (c .duties)) (map (λ x. x .period) (c .duties))
+outcome c = plan (wantedOf (c .engines) (c .duties))
 
 -- all that is stated of a set holds
 abbrev pub Holds : Case → Type 0
@@ -150,11 +152,11 @@ p3 = record { engines = 1; duties = duty 1 2 ∷ duty 1 2 ∷ []; facts = loadsT
 
 -- "7"
 abbrev pub p4 : Case
-p4 = record { engines = 1; duties = duty 1 1 ∷ duty 1 1 ∷ []; facts = refusal 7 0 ∷ [] }
+p4 = record { engines = 1; duties = duty 1 1 ∷ duty 1 1 ∷ []; facts = refusedWith 7 0 ∷ [] }
 
 -- "6, duty 0"
 abbrev pub p5 : Case
-p5 = record { engines = 2; duties = duty 1 4 ∷ duty 2 6 ∷ []; facts = refusal 6 0 ∷ [] }
+p5 = record { engines = 2; duties = duty 1 4 ∷ duty 2 6 ∷ []; facts = refusedWith 6 0 ∷ [] }
 
 -- "exact fit: 2 runs, chains of length 1; loads 2, then 1"
 abbrev pub p6 : Case
@@ -201,7 +203,7 @@ p9 =
 
 -- "5, duty 0"
 abbrev pub p10 : Case
-p10 = record { engines = 1; duties = duty 3 2 ∷ duty 1 0 ∷ []; facts = refusal 5 0 ∷ [] }
+p10 = record { engines = 1; duties = duty 3 2 ∷ duty 1 0 ∷ []; facts = refusedWith 5 0 ∷ [] }
 
 abbrev pub cases : List Case
 cases = p1 ∷ p2 ∷ p3 ∷ p4 ∷ p5 ∷ p6 ∷ p7 ∷ p8 ∷ p9 ∷ p10 ∷ []

@@ -1,14 +1,19 @@
--- Document 01 in its order: the words, SA1, the rotation, the schedule; outcomes, the table's bytes, the builder, the rules of the judge and the
--- same as plain statements, what is asked of a table, the program's text; and the cases P1 to P10.
+-- Document 01 in its order: duties and engines, the words of a plan, SA1, the rotation; what a schedule is, and the walk; outcomes and how
+-- answers read, the table's bytes; what is wanted and refusals 1 to 5, the builder, the rules of the judge and the same as plain statements,
+-- what is asked of a table; the program's text, the outside face; and the cases P1 to P10.
+pub mod Duties
 pub mod Words
 pub mod Sa1
 pub mod Rotation
 pub mod Schedule
+pub mod Walk
 pub mod Outcome
 pub mod Bytes
+pub mod Wanted
 pub mod Builder
 pub mod Rules
 pub mod Statements
 pub mod Answers
 pub mod Text
+pub mod Face
 pub mod Cases

@@ -1,8 +1,15 @@
--- Document 01, "Refusal numbers": what a call comes to. "Each refusal carries a number and a place (0 where none is named)."
+-- Document 01, "Refusal numbers": what a call comes to, and how the code's answers read in its words. "Each refusal carries a number and a
+-- place (0 where none is named)."
 use Prim.Native.Nat.{ℕ}
+use mathlib.Core.Path.{_≡_}
 use mathlib.Core.List.{List}
 use lib.ListN.{length}
 use Rattle.laws.specs.Lists.{over}
+use Rattle.paper.specs.declared.Refusal.{Refusal}
+use Rattle.paper.specs.declared.Written.{Written}
+use Rattle.paper.specs.declared.Written.the-variants.{Length, Refused as NotWritten}
+use Rattle.paper.specs.declared.Verdict.{Verdict}
+use Rattle.paper.specs.declared.Verdict.the-variants.{Done, Refused as NotDone}
 use Rattle.paper.specs.declared.Fault.{Fault}
 use Rattle.paper.specs.declared.Fault.the-variants.{Form, BlockLength, Slice, Order, Overlap, Joint, Twice, Service}
 use Rattle.paper.specs.declared.Reading.{Reading}
@@ -18,37 +25,62 @@ abbrev pub andThen : {A B : Type 0} → Outcome A → (A → Outcome B) → Outc
 andThen (refused n p) f = refused n p
 andThen (answer a) f = f a
 
--- a call that writes bytes answers how many, ..
+-- no place is above this: a place is a duty, a run, a line, an offset, or a number of bytes or entries
+abbrev pub mostPlace : ℕ
+mostPlace = 4_294_967_296
+
+-- ---- refusals and verdicts
+
+-- the refusal of a number and a place, and what it reads as
+abbrev pub refusal : ℕ → ℕ → Refusal
+refusal n p = record { number = n; place = p }
+
+abbrev pub refusedAs : {A : Type 0} → Refusal → Outcome A
+refusedAs x = refused (x .number) (x .place)
+
+-- a verdict, with what stands beside it
+abbrev pub verdictAs : {A : Type 0} → Verdict → A → Outcome A
+verdictAs Done a = answer a
+verdictAs (NotDone x) a = refusedAs x
+
+-- ---- whatever writes
+
+abbrev pub writtenAs : Written → Outcome ℕ
+writtenAs (Length n) = answer n
+writtenAs (NotWritten x) = refusedAs x
+
+-- it answers how much it writes, ..
 abbrev pub lengthOf : Outcome (List ℕ) → Outcome ℕ
 lengthOf o = andThen o (λ w. answer (length w))
 
--- .. and leaves them over the front of the lent buffer. "Refusals write nothing"; "the bytes past it stay"
+-- .. and leaves that over the front of the lent buffer. "Refusals write nothing"; "the bytes past it stay"
 abbrev pub leaves : Outcome (List ℕ) → List ℕ → List ℕ
 leaves (refused n p) l = l
 leaves (answer w) l = over w l
 
--- the judge's fault by its number and place
-abbrev pub faultNumber : Fault → ℕ
-faultNumber (Form at) = 10
-faultNumber BlockLength = 11
-faultNumber (Slice d) = 12
-faultNumber (Order k) = 13
-faultNumber (Overlap k) = 14
-faultNumber (Joint k) = 15
-faultNumber (Twice k) = 16
-faultNumber (Service d) = 17
+-- both: the answer r, and the lent buffer before and after
+pub record Writes (o : Outcome (List ℕ)) (r : Written) (before after : List ℕ) : Type 0 where
+  pub said : writtenAs r ≡ lengthOf o
+  pub left : after ≡ leaves o before
 
-abbrev pub faultPlace : Fault → ℕ
-faultPlace (Form at) = at
-faultPlace BlockLength = 0
-faultPlace (Slice d) = d
-faultPlace (Order k) = k
-faultPlace (Overlap k) = k
-faultPlace (Joint k) = k
-faultPlace (Twice k) = k
-faultPlace (Service d) = d
+-- what cannot be refused: the text is laid over the front of the buffer, and n is its length
+abbrev pub Puts : (text before after : List ℕ) (n : ℕ) → Type 0
+Puts text before after n = (n ≡ length text) × (after ≡ over text before)
 
--- the judge's answer: "either the reading (T, engines, duties, number of runs) or a fault"
+-- ---- the judge
+
+-- a fault by its number and place
+abbrev pub refusalOf : Fault → Refusal
+refusalOf (Form at) = refusal 10 at
+refusalOf BlockLength = refusal 11 0
+refusalOf (Slice d) = refusal 12 d
+refusalOf (Order k) = refusal 13 k
+refusalOf (Overlap k) = refusal 14 k
+refusalOf (Joint k) = refusal 15 k
+refusalOf (Twice k) = refusal 16 k
+refusalOf (Service d) = refusal 17 d
+
+-- "either the reading (T, engines, duties, number of runs) or a fault"
 abbrev pub judgedAs : Judged → Outcome Reading
 judgedAs (Accepted r) = answer r
-judgedAs (Bad f) = refused (faultNumber f) (faultPlace f)
+judgedAs (Bad f) = refusedAs (refusalOf f)

@@ -7,7 +7,8 @@ use Rattle.laws.specs.Choice.{pick, one-if}
 use Rattle.laws.specs.Sum.{sumTo}
 use Rattle.paper.specs.declared.Row.{Row}
 use Rattle.paper.specs.declared.Engine.{Engine}
-use Rattle.paper.specs.Words.{row, engine, Table, heldIn, same}
+use Rattle.paper.specs.Duties.{engine, same}
+use Rattle.paper.specs.Words.{row, Table, heldIn}
 
 -- "Row r+1 is chained to row r if one duty holds the last unit of r and the first unit of r+1."
 unfoldable pub link : Table → ℕ → Bool

@@ -8,7 +8,8 @@ use Rattle.laws.specs.Choice.{pick}
 use Rattle.laws.specs.Search.{first, any}
 use Rattle.paper.specs.declared.Run.{Run}
 use Rattle.paper.specs.declared.Reading.{Reading}
-use Rattle.paper.specs.Words.{stop, slice, blockLengthOf, Table, dutyAt, runAt}
+use Rattle.paper.specs.Duties.{dutyAt}
+use Rattle.paper.specs.Words.{stop, slice, blockLengthOf, Table, runAt}
 use Rattle.paper.specs.Outcome.{Outcome, refused, answer, andThen}
 use Rattle.paper.specs.Bytes.{small, parse}
 use Rattle.paper.specs.Builder.{badSlice}

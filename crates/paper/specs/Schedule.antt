@@ -1,22 +1,16 @@
--- What each engine runs at each tick. Service and loads are those of any schedule; a table's walk is one.
-use Prim.Native.Nat.{ℕ, zero, suc, _+_, _*_, _/_, _%_}
+-- What each engine runs at each tick. Service and loads are those of any schedule. Nothing here knows of blocks, rows or the rotation.
+use Prim.Native.Nat.{ℕ, zero, suc, _+_}
 use mathlib.Core.Bool.{Bool, not, _&&_}
 use Rattle.laws.specs.Choice.{one-if}
 use Rattle.laws.specs.Sum.{sumTo}
 use Rattle.paper.specs.declared.Engine.{Engine}
 use Rattle.paper.specs.declared.Held.{Held}
 use Rattle.paper.specs.declared.Held.the-variants.{By}
-use Rattle.paper.specs.Words.{engine, Table, heldIn, same, busy}
-use Rattle.paper.specs.Rotation.{link, rowAt}
+use Rattle.paper.specs.Duties.{engine, same, busy}
 
 -- idle or a duty, for each engine and tick
 abbrev pub Schedule : Type 0
 Schedule = Engine → ℕ → Held
-
--- "Block b has the ticks from b·T on; a unit is a tick's place in its block": engine e runs, at tick k, what stands at the tick's unit on
--- the row that the walk gives the engine in the tick's block
-unfoldable pub walk : Table → Schedule
-walk t e k = heldIn (t .runs) (rowAt (link t) (k / t .ticks) e) (k % t .ticks)
 
 -- on how many of m engines duty i runs at tick k
 unfoldable pub given : ℕ → Schedule → ℕ → ℕ → ℕ
@@ -35,7 +29,3 @@ load s e (suc k) = busy (s e (suc k)) && not (same (s e (suc k)) (s e k))
 -- the loads on m engines in the first n ticks
 unfoldable pub loadsIn : ℕ → Schedule → ℕ → ℕ
 loadsIn m s n = sumTo n (λ k. sumTo m (λ e. one-if (load s (engine e) k)))
-
--- the loads of a table's first B blocks: every tick and every engine counted
-unfoldable pub loads : Table → ℕ → ℕ
-loads t b = loadsIn (t .engines) (walk t) (b * t .ticks)

@@ -5,7 +5,8 @@ use mathlib.Core.Bool.{true}
 use lib.ListN.{length}
 use Rattle.paper.specs.declared.Duty.{Duty}
 use Rattle.paper.specs.declared.Run.{Run}
-use Rattle.paper.specs.Words.{stop, slice, blockLengthOf, Table, dutyAt, runAt}
+use Rattle.paper.specs.Duties.{dutyAt}
+use Rattle.paper.specs.Words.{stop, slice, blockLengthOf, Table, runAt}
 use Rattle.paper.specs.Bytes.{Width, mostTicks}
 use Rattle.paper.specs.Rules.{before, unitsOf}
 

@@ -1,7 +1,7 @@
 -- Document 01, "The plan program": the text that it reads and the text that it prints, as bytes.
 use Prim.Native.Nat.{ℕ, zero, suc, _+_, _-_, _*_, _/_, _%_}
 use mathlib.Core.Bool.{Bool, true, false, not, _&&_, _||_}
-use mathlib.Core.List.{List, [], _∷_, _++_, map}
+use mathlib.Core.List.{List, [], _∷_, _++_}
 use lib.Dec.{ltb, eqb}
 use lib.ListN.{length, getD, take, drop}
 use Rattle.laws.specs.Choice.{pick}
@@ -9,11 +9,16 @@ use Rattle.laws.specs.Search.{first}
 use Rattle.laws.specs.Lists.{tab, flat, same-list}
 use Rattle.paper.specs.declared.Duty.{Duty}
 use Rattle.paper.specs.declared.Run.{Run}
-use Rattle.paper.specs.Words.{duty, Table, dutyAt}
+use Rattle.paper.specs.declared.Verdict.the-variants.{Done, Refused}
+use Rattle.paper.specs.declared.Input.{Input}
+use Rattle.paper.specs.declared.InputRead.{InputRead}
+use Rattle.paper.specs.Duties.{duty, dutyAt}
+use Rattle.paper.specs.Words.{Table}
 use Rattle.paper.specs.Rotation.{Chain, chains}
-use Rattle.paper.specs.Schedule.{loads}
-use Rattle.paper.specs.Outcome.{Outcome, refused, answer, andThen}
+use Rattle.paper.specs.Walk.{loads}
+use Rattle.paper.specs.Outcome.{Outcome, refused, answer, andThen, refusal}
 use Rattle.paper.specs.Bytes.{small, within}
+use Rattle.paper.specs.Wanted.{Wanted, wanted, wantedOf}
 use Rattle.paper.specs.Builder.{plan, fitted}
 use Rattle.paper.specs.Rules.{accepted}
 
@@ -79,22 +84,29 @@ dutiesFrom n (line c ended ls) =
     pick (ended && dutyLineGood c && not (ltb (small .mostDuties + 1) n)) (andThen (dutiesFrom (n + 1) ls) (λ ds. answer (dutyRead c ∷ ds)))
     (refused 9 n)
 
-pub record Input : Type 0 where
-  pub engines : ℕ
-  pub duties : List Duty
-
 -- "a missing first line is line 1"
-unfoldable pub inputOf : Lines → Outcome Input
+unfoldable pub inputOf : Lines → Outcome Wanted
 inputOf none = refused 9 1
 inputOf (line c ended ls) =
-    pick (ended && engineLineGood c) (andThen (dutiesFrom 2 ls) (λ ds. answer (record { engines = enginesRead c; duties = ds }))) (refused 9 1)
+    pick (ended && engineLineGood c) (andThen (dutiesFrom 2 ls) (λ ds. answer (wantedOf (enginesRead c) ds))) (refused 9 1)
 
 -- "at most 4,096 bytes .. Longer input is fault 9 with place 0"
 abbrev pub mostInput : ℕ
 mostInput = 4096
 
-unfoldable pub input : List ℕ → Outcome Input
+unfoldable pub input : List ℕ → Outcome Wanted
 input b = pick (ltb mostInput (length b)) (refused 9 0) (inputOf (linesOf b))
+
+-- what reading it hands back: two lists with room for every duty, 0 past the last; a refusal holds nothing but 0
+abbrev pub roomy : List ℕ → List ℕ
+roomy l = tab (small .mostDuties) (λ k. getD l k 0)
+
+abbrev pub inputFor : Wanted → Input
+inputFor x = record { engines = x .engines; duties = length (x .services); services = roomy (x .services); periods = roomy (x .periods) }
+
+abbrev pub inputRead : Outcome Wanted → InputRead
+inputRead (refused n p) = record { verdict = Refused (refusal n p); input = inputFor (wanted 0 [] []) }
+inputRead (answer x) = record { verdict = Done; input = inputFor x }
 
 -- ---- printing
 
@@ -159,13 +171,6 @@ planText t =
 unfoldable pub textFor : List ℕ → ℕ → Outcome (List ℕ)
 textFor b room = andThen (accepted b) (λ t. fitted room (planText t))
 
--- the two lists of a list of duties
-abbrev pub servicesOf : List Duty → List ℕ
-servicesOf ds = map (λ x. x .service) ds
-
-abbrev pub periodsOf : List Duty → List ℕ
-periodsOf ds = map (λ x. x .period) ds
-
 -- "It prints .. `refused NUMBER PLACE`, or" the plan
 abbrev pub printed : Outcome Table → List ℕ
 printed (refused n p) = printLine refusedWord (n ∷ p ∷ [])
@@ -173,4 +178,4 @@ printed (answer t) = planText t
 
 -- the program: from what it reads to what it prints; "the program looks for 9 before all others"
 unfoldable pub program : List ℕ → List ℕ
-program b = printed (andThen (input b) (λ i. plan (i .engines) (servicesOf (i .duties)) (periodsOf (i .duties))))
+program b = printed (andThen (input b) plan)

@@ -1,36 +1,26 @@
--- Document 01, "Words": duty, block, unit, slice, row, engine, run. (004 counts units, engines and duties from 1. We count from 0.)
+-- Document 01, "Words", what a plan is made of: block, unit, slice, row, run, table. (004 counts units, engines and duties from 1. We count
+-- from 0.)
 use Prim.Native.Nat.{ℕ, _+_, _*_, _/_, _%_}
-use mathlib.Core.Bool.{Bool, true, false, _&&_}
-use mathlib.Core.List.{List, [], _∷_, map}
+use mathlib.Core.Bool.{Bool, _&&_}
+use mathlib.Core.List.{List, [], _∷_}
 use lib.Dec.{leb, ltb, eqb}
 use lib.ListN.{getD}
 use Rattle.laws.specs.Choice.{pick}
 use Rattle.laws.specs.Divisor.{gcdOf}
 use Rattle.paper.specs.declared.Row.{Row}
-use Rattle.paper.specs.declared.Engine.{Engine}
 use Rattle.paper.specs.declared.Duty.{Duty}
 use Rattle.paper.specs.declared.Run.{Run}
 use Rattle.paper.specs.declared.Held.{Held}
 use Rattle.paper.specs.declared.Held.the-variants.{Idle, By}
+use Rattle.paper.specs.Duties.{periodsOf}
 
--- the row and the engine of a number
+-- the row of a number
 abbrev pub row : ℕ → Row
 row n = record { 0 = n }
 
-abbrev pub engine : ℕ → Engine
-engine n = record { 0 = n }
-
--- "A duty has a service C and a period D, in ticks."
-abbrev pub duty : ℕ → ℕ → Duty
-duty c d = record { service = c; period = d }
-
--- "Its job q has the ticks from q·D up to, not including, (q+1)·D": the first of them; there are D
-abbrev pub jobStart : Duty → ℕ → ℕ
-jobStart x q = q * x .period
-
 -- "The block length T is the greatest common divisor of all periods."
 unfoldable pub blockLengthOf : List Duty → ℕ
-blockLengthOf ds = gcdOf (map (λ x. x .period) ds)
+blockLengthOf ds = gcdOf (periodsOf ds)
 
 -- "The slice N of a duty is T·C/D."
 unfoldable pub slice : ℕ → Duty → ℕ
@@ -59,10 +49,7 @@ pub record Table : Type 0 where
   pub duties : List Duty
   pub runs : List Run
 
--- duty i and run k of lists of them
-abbrev pub dutyAt : List Duty → ℕ → Duty
-dutyAt ds i = getD ds i (duty 0 0)
-
+-- run k of a list of them
 abbrev pub runAt : List Run → ℕ → Run
 runAt xs k = getD xs k (run 0 0 0 0)
 
@@ -70,14 +57,3 @@ runAt xs k = getD xs k (run 0 0 0 0)
 unfoldable pub heldIn : List Run → Row → ℕ → Held
 heldIn [] r u = Idle
 heldIn (x ∷ xs) r u = pick (covers x r u) (By (x .duty)) (heldIn xs r u)
-
--- one duty holds both
-unfoldable pub same : Held → Held → Bool
-same Idle h = false
-same (By i) Idle = false
-same (By i) (By j) = eqb i j
-
--- some duty holds it
-abbrev pub busy : Held → Bool
-busy Idle = false
-busy (By i) = true

@@ -1,3 +1,3 @@
 pub mod Lines
-pub mod Reading
-pub mod Told
+pub mod LinesRead
+pub mod NothingLost

@@ -18,7 +18,7 @@ use Rattle.laws.proofs.Search.{Clear, first-clear, first-holds, first-le}
 use Rattle.paper.specs.Outcome.{refused, answer, andThen}
 use Rattle.paper.specs.Text.{none, line, onto, linesOf, dutyLineGood, dutyRead, dutiesFrom, engineLineGood, enginesRead, inputOf, input}
 use Rattle.line_read.specs.Line.{firstGood, lineGood}
-use Rattle.plan_input.specs.Taken.{withEngines}
+use Rattle.plan_input.specs.AsWanted.{withEngines}
 
 -- the byte at k is a line feed
 abbrev pub feedAt : List ℕ → ℕ → Bool

@@ -1,40 +1,28 @@
 // The plan program's input: from bytes of any kind to engines and duties, or to the first faulty line. First a line's end
 // is looked for, then the line is judged and read as a part of the bytes of its own.
 ghost use mathlib.Core.Path.{_≡_};
-ghost use Rattle.paper.specs.Text.{linesOf, dutiesFrom, input};
-ghost use Rattle.plan_input.specs.Taken.{faultAt, asTaken, withEngines};
+ghost use Rattle.paper.specs.Outcome.{refused};
+ghost use Rattle.paper.specs.Text.{linesOf, dutiesFrom, input, inputRead};
+ghost use Rattle.plan_input.specs.AsWanted.{withEngines};
 use line_read::duty_read;
 use line_read::engines_read;
 use line_read::find;
 use line_read::first_line_good;
 use line_read::line_good;
+use paper::Input;
+use paper::InputRead;
+use paper::Refusal;
+use paper::Verdict;
 
-// What was read: the engines, how many duties, and the service and the period of each; past the last duty they are 0.
-pub struct Input {
-    pub engines: u32,
-    pub duties: u32,
-    pub services: [u32; 64],
-    pub periods: [u32; 64],
-}
-
-// Whether the text is good; if not it has fault 9, at the line that is told.
-pub enum Verdict {
-    Read,
-    Fault(usize),
-}
-
-// On a fault the input is all 0.
-pub struct Taken {
-    pub verdict: Verdict,
-    pub input: Input,
-}
-
-// Fault 9 at a line.
-fn faulty(line: usize) -> Taken
-    ensures { λ r. ⌜ r ≡ faultAt line ⌝ }
+// Refusal 9 at a line.
+fn faulty(line: usize) -> InputRead
+    ensures { λ r. ⌜ r ≡ inputRead (refused 9 line) ⌝ }
 {
-    Taken {
-        verdict: Verdict::Fault(line),
+    InputRead {
+        verdict: Verdict::Refused(Refusal {
+            number: 9,
+            place: line,
+        }),
         input: Input {
             engines: 0,
             duties: 0,
@@ -46,8 +34,8 @@ fn faulty(line: usize) -> Taken
 
 // The duties of the lines after the first, which named the engines: of each line its end, then what stands before it.
 // Line i + 2 is that of duty i.
-fn read_duties(b: &[u8], engines: u32) -> Taken
-    ensures { λ r. ⌜ r ≡ asTaken (withEngines engines (dutiesFrom 2 (linesOf (now (b .entry))))) ⌝ }
+fn read_duties(b: &[u8], engines: u32) -> InputRead
+    ensures { λ r. ⌜ r ≡ inputRead (withEngines engines (dutiesFrom 2 (linesOf (now (b .entry))))) ⌝ }
 {
     let mut services = [0; 64];
     let mut periods = [0; 64];
@@ -66,8 +54,8 @@ fn read_duties(b: &[u8], engines: u32) -> Taken
         at = at + end + 1;
     }
     let duties = i as u32;
-    Taken {
-        verdict: Verdict::Read,
+    InputRead {
+        verdict: Verdict::Done,
         input: Input {
             engines,
             duties,
@@ -78,8 +66,8 @@ fn read_duties(b: &[u8], engines: u32) -> Taken
 }
 
 // Reads what the plan program was given: at most 4,096 bytes, the line of the engines, then the lines of the duties.
-pub fn read_input(b: &[u8]) -> Taken
-    ensures { λ r. ⌜ r ≡ asTaken (input (now (b .entry))) ⌝ }
+pub fn read_input(b: &[u8]) -> InputRead
+    ensures { λ r. ⌜ r ≡ inputRead (input (now (b .entry))) ⌝ }
 {
     if b.len() > 4096 {
         return faulty(0);

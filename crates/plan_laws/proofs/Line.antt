@@ -21,7 +21,8 @@ use Rattle.laws.proofs.Decides.{spans, spans-decides, spans-not}
 use Rattle.laws.proofs.Sum.{sum-ext, sum-swap, sum-blocks, count-once, count-stretch}
 use Rattle.paper.specs.declared.Held.{Held}
 use Rattle.paper.specs.declared.Held.the-variants.{Idle, By}
-use Rattle.paper.specs.Words.{row, run, covers, heldIn, same}
+use Rattle.paper.specs.Duties.{same}
+use Rattle.paper.specs.Words.{row, run, covers, heldIn}
 use Rattle.paper.specs.Sa1.{lay}
 use Rattle.paper.proofs.Holding.{covers-row, covers-has, has-covers}
 use Rattle.plan_laws.proofs.Sa1.{lay-cases}

@@ -1,8 +1,8 @@
--- Each call comes to an answer or to a refusal whose number document 01 lists for that call, and whose place is at most 4,096: a place is a
--- duty below 64, a run below 128, or an offset or a length within a table of at most 64 duties and 128 runs.
+-- Each call comes to an answer or to a refusal whose number document 01 lists for that call, and whose place is within the bound on places: it
+-- is a duty, a run or a line, of which there are few, or an offset or a length within a table of few duties and runs.
 -- Assumes nothing.
-use Prim.Native.Nat.{ℕ, _+_, _-_, _^_, _≤_, _<_}
-use mathlib.Core.Path.{_≡_, refl, sym}
+use Prim.Native.Nat.{ℕ, _+_, _*_, _-_, _^_, _≤_, _<_}
+use mathlib.Core.Path.{_≡_, refl, sym, ap}
 use mathlib.Core.Bool.{Bool, true, false, not, _&&_}
 use mathlib.Core.List.{List, [], _∷_}
 use mathlib.Core.Logic.{_⊎_, inl, inr}
@@ -11,17 +11,20 @@ use lib.Dec.{ltb, eqb}
 use lib.ListN.{length}
 use borrow.Author.Tests.{ltb-true, ltb-false, not-true, not-false}
 use Rattle.laws.specs.Choice.{pick}
-use Rattle.laws.specs.Lists.{same-list}
+use Rattle.laws.specs.Lists.{same-list, sumOf}
 use Rattle.laws.proofs.Search.{first-le}
 use Rattle.laws.proofs.Cases.{and-right}
 use Rattle.paper.specs.declared.Engine.{Engine}
+use Rattle.paper.specs.declared.Duty.{Duty}
 use Rattle.paper.specs.Words.{Table, blockLengthOf}
-use Rattle.paper.specs.Outcome.{Outcome, refused, answer, andThen}
+use Rattle.paper.specs.Outcome.{Outcome, refused, answer, andThen, mostPlace}
 use Rattle.paper.specs.Bytes.{small, encode, runPlace, endLength, dutyPlace, dutiesIn, headGood, endGood, runGood, badDuty, goodRuns, tableIn, afterRuns, afterHead, parse}
-use Rattle.paper.specs.Builder.{dutiesOf, badSlice, plan, build}
-use Rattle.paper.specs.Answers.{State, rowsAt, stateAt, mostBlocks, question, start, rowTold, advanced, counted}
-use Rattle.paper.specs.Schedule.{loads}
-use Rattle.paper.specs.Sa1.{sa1}
+use Rattle.paper.specs.Wanted.{Wanted, wantedOf, dutySet, taken}
+use Rattle.paper.specs.Builder.{badSlice, planAt, plan, fitted, build}
+use Rattle.paper.specs.declared.State.{State}
+use Rattle.paper.specs.Answers.{rowsAt, stateAt, mostBlocks, question, start, rowTold, advanced, counted}
+use Rattle.paper.specs.Walk.{loads}
+use Rattle.paper.specs.Sa1.{slices}
 use Rattle.paper.specs.Rules.{fault, judged, readingOf, lowest, overlaps, joins, twice, badSum, badOrder, judgeRuns, judgeTable, accepted}
 use Rattle.paper.specs.Text.{Lines, none, line, linesOf, engineLineGood, enginesRead, dutyLineGood, dutyRead, dutiesFrom, inputOf, mostInput, input}
 use Rattle.paper.specs.Statements.{Ranged}
@@ -29,20 +32,20 @@ use Rattle.paper.proofs.Outcomes.{answered, refused-one}
 use Rattle.table_laws.proofs.Bytes.{length-encode}
 use Rattle.paper.proofs.Passed.{From, head-told}
 use Rattle.table_laws.proofs.Read.{parse-ranged}
-use Rattle.plan_laws.proofs.PlanWhen.{Counts, When, engines-out, lengths-differ, duties-out, period-out, service-out, slice-broken, too-much, planned, plan-when}
-use Rattle.plan_laws.proofs.Planned.{length-duties, planned-ranged, WhenBuilt, not-planned, too-short, written, built-when}
+use Rattle.plan_laws.proofs.TakenWhen.{Counts, WhenTaken, engines-out, lengths-differ, duties-out, period-out, service-out, all-taken, taken-when, taken-told}
+use Rattle.plan_laws.proofs.Planned.{length-duties, planned-ranged}
 
 -- ---- refusals with listed numbers
 
 -- a listed number, which fits a byte, and a place
-pub record Told (P : ℕ → Type 0) (n p : ℕ) : Type 0 where
+pub record InList (P : ℕ → Type 0) (n p : ℕ) : Type 0 where
   pub listed : P n
   pub byte : n < 256
-  pub place : p ≤ 4096
+  pub place : p ≤ mostPlace
 
 -- whatever is refused is refused so
 abbrev pub Listed : {A : Type 0} → (ℕ → Type 0) → Outcome A → Type 0
-Listed P o = (n p : ℕ) → o ≡ refused n p → Told P n p
+Listed P o = (n p : ℕ) → o ≡ refused n p → InList P n p
 
 module _ {A : Type 0} (P : ℕ → Type 0) where
   -- an answer is not refused
@@ -50,7 +53,7 @@ module _ {A : Type 0} (P : ℕ → Type 0) where
   listed-answer a n p e = answered a n p e
 
   -- a refusal
-  listed-refused : (n p : ℕ) → P n → n < 256 → p ≤ 4096 → Listed {A = A} P (refused n p)
+  listed-refused : (n p : ℕ) → P n → n < 256 → p ≤ mostPlace → Listed {A = A} P (refused n p)
   listed-refused n p l b h k q e =
       let z = refused-one n p k q e in
       record { listed = rw (← z .0) l; byte = omega (arith, z .0); place = omega (arith, z .1) }
@@ -65,7 +68,7 @@ module _ {A : Type 0} (P : ℕ → Type 0) where
   listed-else b x n l h r = listed-pick b x (refused n 0) (λ p. r) (λ p. listed-refused n 0 l h (omega arith))
 
   -- a fault at one of few places
-  listed-fault : (number place count : ℕ) (rest : Outcome A) → P number → number < 256 → count ≤ 4096 → Listed P rest → Listed P (fault number place count rest)
+  listed-fault : (number place count : ℕ) (rest : Outcome A) → P number → number < 256 → count ≤ mostPlace → Listed P rest → Listed P (fault number place count rest)
   listed-fault number place count rest l b c r =
       listed-pick (ltb place count) (refused number place) rest
       (λ h. listed-refused number place l b (omega (arith, ltb-true place count h)))
@@ -104,7 +107,7 @@ parse-listed b =
     (λ m. form (runPlace small n k + endLength) (omega (arith, runs-few b n, few)))
     (λ m. listed-answer P (tableIn small b n k)))))
   where
-    form : (p : ℕ) → p ≤ 4096 → Listed {A = Table} (From 10 17) (refused 10 p)
+    form : (p : ℕ) → p ≤ mostPlace → Listed {A = Table} (From 10 17) (refused 10 p)
     form p h = listed-refused (From 10 17) 10 p (omega arith) (omega arith) h
 
 -- 11 to 17
@@ -114,8 +117,8 @@ judge-listed t r =
     let P = From 10 17 in
     let xs = length (t .runs) in
     let ds = length (t .duties) in
-    let runs : xs ≤ 4096 = omega (arith, r .runs-most) in
-    let duties : ds ≤ 4096 = omega (arith, r .duties-most) in
+    let runs : xs ≤ mostPlace = omega (arith, r .runs-most) in
+    let duties : ds ≤ mostPlace = omega (arith, r .duties-most) in
     listed-pick P (not (eqb (t .ticks) (blockLengthOf (t .duties)))) _ _ (λ h. listed-refused P 11 0 (omega arith) (omega arith) (omega arith))
     (λ h. listed-fault P 12 (badSlice (t .ticks) (t .duties)) ds _ (omega arith) (omega arith) duties
     (listed-fault P 13 (badOrder t) xs _ (omega arith) (omega arith) runs
@@ -136,39 +139,50 @@ judged-listed b = listed-then (From 10 17) (accepted b) (λ t. answer (readingOf
 
 -- ---- the builder
 
--- 1 to 7 for a plan
-plan-listed : (m : ℕ) (ss ps : List ℕ) → Listed (From 1 7) (plan m ss ps)
-plan-listed m ss ps n p e = go (plan-when m ss ps (refused n p) .0 e)
+-- 1 to 5 for what is wanted
+pub taken-listed : (x : Wanted) → Listed (From 1 5) (taken x)
+taken-listed x n p e = go (taken-when x (refused n p) .0 e)
   where
-    told : (k q : ℕ) → From 1 7 k → q ≤ 4096 → _≡_ {A = Outcome Table} (refused n p) (refused k q) → Told (From 1 7) n p
-    told k q l h e = listed-refused {A = Table} (From 1 7) k q l (omega arith) h n p (sym e)
+    told : (k q : ℕ) → From 1 5 k → q ≤ mostPlace → _≡_ {A = Outcome (List Duty)} (refused n p) (refused k q) → InList (From 1 5) n p
+    told k q l h e = listed-refused {A = List Duty} (From 1 5) k q l (omega arith) h n p (sym e)
 
-    low : (d : ℕ) → Counts m ss ps → d < length (dutiesOf ss ps) → d ≤ 4096
-    low d c h = omega (arith, c .duties, length-duties ss ps)
+    low : (d : ℕ) → Counts x → d < length (dutySet x) → d ≤ mostPlace
+    low d c h = omega (arith, c .duties, length-duties (x .services) (x .periods))
 
-    go : When m ss ps (refused n p) → Told (From 1 7) n p
+    go : WhenTaken x (refused n p) → InList (From 1 5) n p
     go (engines-out q f) = told 1 0 (omega arith) (omega arith) q
     go (lengths-differ q a f) = told 2 0 (omega arith) (omega arith) q
     go (duties-out q a b f) = told 3 0 (omega arith) (omega arith) q
     go (period-out d q c l f) = told 4 d (omega arith) (low d c (l .0)) q
     go (service-out d q c l f) = told 5 d (omega arith) (low d c (l .0)) q
-    go (slice-broken d q c r l) = told 6 d (omega arith) (low d c (l .0)) q
-    go (too-much q c r w f) = told 7 0 (omega arith) (omega arith) q
-    go (planned q f) = answered (sa1 (blockLengthOf (dutiesOf ss ps)) m (dutiesOf ss ps)) n p (sym q)
+    go (all-taken q c) = answered (dutySet x) n p (sym q)
+
+-- 6 and 7 for a plan of few duties
+plan-at-listed : (t m : ℕ) (ds : List Duty) → length ds ≤ mostPlace → Listed (From 1 7) (planAt t m ds)
+unfolding planAt
+plan-at-listed t m ds few =
+    let P = From 1 7 in
+    listed-fault P 6 (badSlice t ds) (length ds) _ (omega arith) (omega arith) few
+    (listed-pick P (ltb (m * t) (sumOf (slices t ds))) _ _ (λ h. listed-refused P 7 0 (omega arith) (omega arith) (omega arith)) (λ h. listed-answer P _))
+
+plan-listed : (x : Wanted) → Listed (From 1 7) (plan x)
+unfolding plan
+plan-listed x =
+    listed-then (From 1 7) (taken x) _ (listed-more (λ n l. omega arith) (taken x) (taken-listed x))
+    (λ ds e. let z = taken-told x ds e in
+    plan-at-listed _ _ ds (omega (arith, ap length (z .1), z .0 .counts .duties, length-duties (x .services) (x .periods))))
 
 -- 1 to 8 for its bytes
-pub build-listed : (m : ℕ) (ss ps : List ℕ) (room : ℕ) → Listed (From 1 8) (build m ss ps room)
-build-listed m ss ps room n p e = go (built-when m ss ps room (refused n p) .0 e)
-  where
-    go : WhenBuilt m ss ps room (refused n p) → Told (From 1 8) n p
-    go (not-planned k q f e) =
-        let z = refused-one n p k q e in
-        listed-more (λ i l. omega arith) (plan m ss ps) (plan-listed m ss ps) n p (rw (z .0, z .1) f)
-    go (too-short t f l e) =
-        let r = planned-ranged m ss ps t f in
-        listed-refused {A = List ℕ} (From 1 8) 8 (length (encode small t)) (omega arith) (omega arith)
-        (omega (arith, length-encode small t, r .duties-most, r .runs-most)) n p (sym e)
-    go (written t f l e) = answered (encode small t) n p (sym e)
+pub build-listed : (x : Wanted) (room : ℕ) → Listed (From 1 8) (build x room)
+unfolding build fitted
+build-listed x room =
+    let P = From 1 8 in
+    listed-then P (plan x) _ (listed-more (λ n l. omega arith) (plan x) (plan-listed x))
+    (λ t e.
+    let r = planned-ranged x t e in
+    listed-pick P (ltb room (length (encode small t))) _ _
+    (λ h. listed-refused P 8 (length (encode small t)) (omega arith) (omega arith) (omega (arith, length-encode small t, r .duties-most, r .runs-most)))
+    (λ h. listed-answer P (encode small t)))
 
 -- ---- what is asked of a table
 
@@ -234,5 +248,5 @@ input-listed b = listed-pick (λ k. k ≡ 9) (ltb mostInput (length b)) _ _ (λ 
     go (line c ended ls) =
         let P : ℕ → Type 0 = λ k. k ≡ 9 in
         listed-pick P (ended && engineLineGood c) _ _
-        (λ h. listed-then P (dutiesFrom 2 ls) _ (lines-listed 2 ls (omega arith)) (λ ds e. listed-answer P (record { engines = enginesRead c; duties = ds })))
+        (λ h. listed-then P (dutiesFrom 2 ls) _ (lines-listed 2 ls (omega arith)) (λ ds e. listed-answer P (wantedOf (enginesRead c) ds)))
         (λ h. listed-refused P 9 1 refl (omega arith) (omega arith))

@@ -1,5 +1,5 @@
 -- What the builder plans. It has passed every test, so it is SA1's table of duties that fit: in form, meeting the rules, accepted when
--- written as bytes, and read back with the engines and the two lists that were given. The builder's bytes are that table's, if there is room.
+-- written as bytes, and read back as what was wanted. The builder's bytes are that table's, if there is room.
 -- Assumes nothing.
 use Prim.Native.Nat.{ℕ, _≤_, _<_}
 use mathlib.Core.Path.{_≡_, refl, sym, ap, _∙_}
@@ -13,20 +13,21 @@ use borrow.Author.Tests.{lt-ltb, le-ltb, ltb-true, ltb-false}
 use Rattle.laws.proofs.Cases.{by-cases}
 use Rattle.laws.proofs.Lists.{length-tab, map-tab, tab-getD}
 use Rattle.paper.specs.declared.Duty.{Duty}
-use Rattle.paper.specs.Words.{duty, blockLengthOf, Table}
+use Rattle.paper.specs.Duties.{duty, servicesOf, periodsOf}
+use Rattle.paper.specs.Words.{blockLengthOf, Table}
 use Rattle.paper.specs.Sa1.{sa1}
 use Rattle.paper.specs.Outcome.{Outcome, refused, answer, andThen}
 use Rattle.paper.specs.Bytes.{small, encode}
-use Rattle.paper.specs.Builder.{dutiesOf, plan, fitted, build}
+use Rattle.paper.specs.Wanted.{Wanted, wantedOf, dutiesOf, dutySet}
+use Rattle.paper.specs.Builder.{plan, fitted, build}
 use Rattle.paper.specs.Rules.{accepted}
 use Rattle.paper.specs.Statements.{Ranged, Meets}
-use Rattle.paper.specs.Text.{servicesOf, periodsOf}
 use Rattle.paper.proofs.Outcomes.{answered, answer-one}
 use Rattle.paper.proofs.Passed.{Ranges}
 use Rattle.table_laws.proofs.Accepted.{block-divides}
 use Rattle.plan_laws.proofs.Sa1Table.{Fits, sa1-ranged, sa1-meets, ticks-within}
 use Rattle.table_laws.proofs.AcceptedBytes.{meets-accepted}
-use Rattle.plan_laws.proofs.PlanWhen.{Fitting, When, engines-out, lengths-differ, duties-out, period-out, service-out, slice-broken, too-much, planned, plan-when}
+use Rattle.plan_laws.proofs.PlanWhen.{blockOf, Fitting, When, not-taken, slice-broken, too-much, planned, plan-when}
 
 -- ---- T
 
@@ -54,93 +55,84 @@ periods-back ss ps e = map-tab (λ x. x .period) (length ss) (λ d. duty (getD s
 -- ---- the plan
 
 -- duties that pass every test fit
-fitting-fits : (m : ℕ) (ss ps : List ℕ) → Fitting m ss ps → Fits small (blockLengthOf (dutiesOf ss ps)) m (dutiesOf ss ps)
-fitting-fits m ss ps f =
-    let ds = dutiesOf ss ps in
-    let n = length-duties ss ps in
-    let some : 1 ≤ length ds = omega (arith, n, f .counts .duties) in
+fitting-fits : (x : Wanted) → Fitting x → Fits small (blockOf x) (x .engines) (dutySet x)
+fitting-fits x f =
+    let ds = dutySet x in
+    let c = f .taken .counts in
+    let n = length-duties (x .services) (x .periods) in
+    let some : 1 ≤ length ds = omega (arith, n, c .duties) in
     record {
-      ticks-least = block-least ds some (f .ranges);
-      ticks-most = ticks-within (blockLengthOf ds) ds some (f .ranges) (block-divides ds);
-      engines-least = f .counts .engines .0;
-      engines-most = f .counts .engines .1;
+      ticks-least = block-least ds some (f .taken .ranges);
+      ticks-most = ticks-within (blockOf x) ds some (f .taken .ranges) (block-divides ds);
+      engines-least = c .engines .0;
+      engines-most = c .engines .1;
       duties-least = some;
-      duties-most = omega (arith, n, f .counts .duties);
-      duty-ranged = f .ranges;
+      duties-most = omega (arith, n, c .duties);
+      duty-ranged = f .taken .ranges;
       slices-whole = f .wholes;
       slices-fit = f .fit;
     }
 
--- an answer's condition is that the duties pass every test
-when-answer : (m : ℕ) (ss ps : List ℕ) (t : Table) → When m ss ps (answer t) → Fitting m ss ps × (t ≡ sa1 (blockLengthOf (dutiesOf ss ps)) m (dutiesOf ss ps))
-when-answer m ss ps t (engines-out q n) = answered t 1 0 q
-when-answer m ss ps t (lengths-differ q a n) = answered t 2 0 q
-when-answer m ss ps t (duties-out q a b n) = answered t 3 0 q
-when-answer m ss ps t (period-out d q c l n) = answered t 4 d q
-when-answer m ss ps t (service-out d q c l n) = answered t 5 d q
-when-answer m ss ps t (slice-broken d q c r l) = answered t 6 d q
-when-answer m ss ps t (too-much q c r w n) = answered t 7 0 q
-when-answer m ss ps t (planned q f) = (f, cc)
-
 -- there is a plan exactly where the duties pass every test, and it is SA1's
-pub planned-when : (m : ℕ) (ss ps : List ℕ) (t : Table) → (plan m ss ps ≡ answer t) ↔ (Fitting m ss ps × (t ≡ sa1 (blockLengthOf (dutiesOf ss ps)) m (dutiesOf ss ps)))
-planned-when m ss ps t = ((λ h. when-answer m ss ps t (plan-when m ss ps (answer t) .0 h)), (λ f. plan-when m ss ps (answer t) .1 (planned (ap answer (f .1)) (f .0))))
+pub planned-when : (x : Wanted) (t : Table) → (plan x ≡ answer t) ↔ (Fitting x × (t ≡ sa1 (blockOf x) (x .engines) (dutySet x)))
+planned-when x t = ((λ h. go (plan-when x (answer t) .0 h)), (λ f. plan-when x (answer t) .1 (planned (ap answer (f .1)) (f .0))))
+  where
+    go : When x (answer t) → Fitting x × (t ≡ sa1 (blockOf x) (x .engines) (dutySet x))
+    go (not-taken n p h q) = answered t n p q
+    go (slice-broken d q c l) = answered t 6 d q
+    go (too-much q c w n) = answered t 7 0 q
+    go (planned q f) = (f, answer-one t _ q)
 
-module _ (m : ℕ) (ss ps : List ℕ) (t : Table) (h : plan m ss ps ≡ answer t) where
+module _ (x : Wanted) (t : Table) (h : plan x ≡ answer t) where
   -- the plan is SA1's
-  pub planned-sa1 : t ≡ sa1 (blockLengthOf (dutiesOf ss ps)) m (dutiesOf ss ps)
-  planned-sa1 = planned-when m ss ps t .0 h .1
+  pub planned-sa1 : t ≡ sa1 (blockOf x) (x .engines) (dutySet x)
+  planned-sa1 = planned-when x t .0 h .1
 
   -- of duties that fit
-  pub planned-fits : Fits small (blockLengthOf (dutiesOf ss ps)) m (dutiesOf ss ps)
-  planned-fits = fitting-fits m ss ps (planned-when m ss ps t .0 h .0)
+  pub planned-fits : Fits small (blockOf x) (x .engines) (dutySet x)
+  planned-fits = fitting-fits x (planned-when x t .0 h .0)
 
   -- it is in form
   pub planned-ranged : Ranged small t
-  planned-ranged = rw planned-sa1 (sa1-ranged small (blockLengthOf (dutiesOf ss ps)) m (dutiesOf ss ps) planned-fits (omega arith))
+  planned-ranged = rw planned-sa1 (sa1-ranged small (blockOf x) (x .engines) (dutySet x) planned-fits (omega arith))
 
   -- and meets the rules
   pub planned-meets : Meets t
-  planned-meets = rw planned-sa1 (sa1-meets small (blockLengthOf (dutiesOf ss ps)) m (dutiesOf ss ps) planned-fits refl)
+  planned-meets = rw planned-sa1 (sa1-meets small (blockOf x) (x .engines) (dutySet x) planned-fits refl)
 
   -- its bytes are accepted and read as it
   pub planned-accepted : accepted (encode small t) ≡ answer t
   planned-accepted = meets-accepted t planned-ranged planned-meets
 
-  -- it has the engines that were given, ..
-  pub planned-engines : t .engines ≡ m
+  -- it is for what was wanted: the engines, the services and the periods
+  pub planned-wanted : wantedOf (t .engines) (t .duties) ≡ x
   unfolding sa1
-  planned-engines = ap (λ (x : Table). x .engines) planned-sa1
-
-  -- .. the services ..
-  pub planned-services : servicesOf (t .duties) ≡ ss
-  unfolding sa1
-  planned-services = ap (λ (x : Table). servicesOf (x .duties)) planned-sa1 ∙ services-back ss ps
-
-  -- .. and the periods
-  pub planned-periods : periodsOf (t .duties) ≡ ps
-  unfolding sa1
-  planned-periods =
-      ap (λ (x : Table). periodsOf (x .duties)) planned-sa1 ∙ periods-back ss ps (planned-when m ss ps t .0 h .0 .counts .lengths)
+  planned-wanted =
+      let c = planned-when x t .0 h .0 .taken .counts in
+      let m : t .engines ≡ x .engines = ap (λ (y : Table). y .engines) planned-sa1 in
+      let s : servicesOf (t .duties) ≡ x .services = ap (λ (y : Table). servicesOf (y .duties)) planned-sa1 ∙ services-back (x .services) (x .periods) in
+      let p : periodsOf (t .duties) ≡ x .periods =
+      ap (λ (y : Table). periodsOf (y .duties)) planned-sa1 ∙ periods-back (x .services) (x .periods) (c .lengths) in
+      λ i. record { engines = m i; services = s i; periods = p i }
 
 -- ---- the bytes
 
 -- "No.", "When" and "Place" of refusal 8, which comes after 1 to 7, and when bytes are written
-pub data WhenBuilt (m : ℕ) (ss ps : List ℕ) (room : ℕ) (o : Outcome (List ℕ)) : Type 0 where
+pub data WhenBuilt (x : Wanted) (room : ℕ) (o : Outcome (List ℕ)) : Type 0 where
   -- 1 to 7
-  not-planned : (n p : ℕ) → plan m ss ps ≡ refused n p → o ≡ refused n p → WhenBuilt m ss ps room o
+  not-planned : (n p : ℕ) → plan x ≡ refused n p → o ≡ refused n p → WhenBuilt x room o
   -- 8 buffer shorter than the table, at the bytes needed
-  too-short : (t : Table) → plan m ss ps ≡ answer t → room < length (encode small t) → o ≡ refused 8 (length (encode small t)) → WhenBuilt m ss ps room o
+  too-short : (t : Table) → plan x ≡ answer t → room < length (encode small t) → o ≡ refused 8 (length (encode small t)) → WhenBuilt x room o
   -- else the table's bytes
-  written : (t : Table) → plan m ss ps ≡ answer t → length (encode small t) ≤ room → o ≡ answer (encode small t) → WhenBuilt m ss ps room o
+  written : (t : Table) → plan x ≡ answer t → length (encode small t) ≤ room → o ≡ answer (encode small t) → WhenBuilt x room o
 
-module _ (m : ℕ) (ss ps : List ℕ) (room : ℕ) where
+module _ (x : Wanted) (room : ℕ) where
   -- every outcome has its condition
-  built-tells : (o : Outcome (List ℕ)) → build m ss ps room ≡ o → WhenBuilt m ss ps room o
+  built-tells : (o : Outcome (List ℕ)) → build x room ≡ o → WhenBuilt x room o
   unfolding build fitted
-  built-tells o = go (plan m ss ps) refl
+  built-tells o = go (plan x) refl
     where
-      go : (x : Outcome Table) → plan m ss ps ≡ x → andThen x (λ t. fitted room (encode small t)) ≡ o → WhenBuilt m ss ps room o
+      go : (y : Outcome Table) → plan x ≡ y → andThen y (λ t. fitted room (encode small t)) ≡ o → WhenBuilt x room o
       go (refused n p) e q = not-planned n p e (sym q)
       go (answer t) e q =
           by-cases (ltb room (length (encode small t)))
@@ -148,27 +140,27 @@ module _ (m : ℕ) (ss ps : List ℕ) (room : ℕ) where
           (λ l. written t e (ltb-false room (length (encode small t)) l) (sym q ∙ rw l))
 
   -- and comes about where that holds
-  told-built : (o : Outcome (List ℕ)) → WhenBuilt m ss ps room o → build m ss ps room ≡ o
+  told-built : (o : Outcome (List ℕ)) → WhenBuilt x room o → build x room ≡ o
   unfolding build fitted
   told-built o (not-planned n p h q) = rw h (sym q)
   told-built o (too-short t h l q) = rw (h, lt-ltb room (length (encode small t)) l) (sym q)
   told-built o (written t h l q) = rw (h, le-ltb room (length (encode small t)) l) (sym q)
 
   -- the builder's outcome is the one whose condition holds
-  pub built-when : (o : Outcome (List ℕ)) → (build m ss ps room ≡ o) ↔ WhenBuilt m ss ps room o
+  pub built-when : (o : Outcome (List ℕ)) → (build x room ≡ o) ↔ WhenBuilt x room o
   built-when o = (built-tells o, told-built o)
 
 -- bytes that are built are those of the plan
-pub record Built (m : ℕ) (ss ps : List ℕ) (room : ℕ) (b : List ℕ) : Type 0 where
+pub record Built (x : Wanted) (room : ℕ) (b : List ℕ) : Type 0 where
   pub table : Table
-  pub plans : plan m ss ps ≡ answer table
+  pub plans : plan x ≡ answer table
   pub bytes : encode small table ≡ b
   pub fits : length b ≤ room
 
-pub built : (m : ℕ) (ss ps : List ℕ) (room : ℕ) (b : List ℕ) → build m ss ps room ≡ answer b → Built m ss ps room b
-built m ss ps room b h = go (built-when m ss ps room (answer b) .0 h)
+pub built : (x : Wanted) (room : ℕ) (b : List ℕ) → build x room ≡ answer b → Built x room b
+built x room b h = go (built-when x room (answer b) .0 h)
   where
-    go : WhenBuilt m ss ps room (answer b) → Built m ss ps room b
+    go : WhenBuilt x room (answer b) → Built x room b
     go (not-planned n p f q) = answered b n p q
     go (too-short t f l q) = answered b 8 (length (encode small t)) q
     go (written t f l q) =
@@ -176,7 +168,7 @@ built m ss ps room b h = go (built-when m ss ps room (answer b) .0 h)
         record { table = t; plans = f; bytes = sym e; fits = rw e l }
 
 -- they are accepted and read as the plan
-pub built-accepted : (m : ℕ) (ss ps : List ℕ) (room : ℕ) (b : List ℕ) (h : build m ss ps room ≡ answer b) → accepted b ≡ answer (built m ss ps room b h .table)
-built-accepted m ss ps room b h =
-    let r = built m ss ps room b h in
-    rw (r .bytes) at (planned-accepted m ss ps (r .table) (r .plans))
+pub built-accepted : (x : Wanted) (room : ℕ) (b : List ℕ) (h : build x room ≡ answer b) → accepted b ≡ answer (built x room b h .table)
+built-accepted x room b h =
+    let r = built x room b h in
+    rw (r .bytes) at (planned-accepted x (r .table) (r .plans))

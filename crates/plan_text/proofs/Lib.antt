@@ -1,3 +1,2 @@
 pub mod Fitting
 mod Rotating
-pub mod Unique

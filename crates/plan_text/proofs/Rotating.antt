@@ -9,7 +9,7 @@ use Rattle.laws.specs.Lists.{flat}
 use Rattle.paper.specs.declared.Reading.{Reading}
 use Rattle.paper.specs.Bytes.{small}
 use Rattle.paper.specs.Rotation.{link, firstOf, chains}
-use Rattle.paper.specs.Schedule.{loads}
+use Rattle.paper.specs.Walk.{loads}
 use Rattle.paper.specs.Text.{planLine, chainLine, loadsLine, planText}
 use Rattle.paper.proofs.Links.{closed, rows-end}
 use Rattle.paper.proofs.Loads.{later-is}

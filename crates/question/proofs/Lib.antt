@@ -1,2 +1,1 @@
 mod Replying
-pub mod Unique

@@ -1,27 +1,20 @@
 // The direct question: which duty an engine runs at a tick, and on which row. The bytes are judged first; after that one search
 // for the run that holds the unit is all that looks at the runs, whatever the tick.
 ghost use mathlib.Core.Path.{_≡_};
-ghost use Rattle.paper.specs.Answers.{question};
+ghost use Rattle.paper.specs.Outcome.{answer};
+ghost use Rattle.paper.specs.Answers.{ofEngine, replyOf, question, answerAs};
 ghost use Rattle.record_read.specs.Formed.{Formed, tableOf};
 ghost use Rattle.table_tally.specs.Tally.{startsOf, endsOf};
-ghost use Rattle.question.specs.Told.{answerAs, replyOf};
-use judge::number_of;
-use judge::place_of;
+use judge::refusal_of;
 use judge::rule_on;
+use paper::Answer;
 use paper::Engine;
-use paper::Held;
 use paper::Judged;
 use paper::Reading;
-use paper::Row;
+use paper::Refusal;
+use paper::Reply;
 use rotation::row_in;
 use unit_holder::held;
-
-// The duty and the row, or idle with the row; else the refusal's number and place.
-pub enum Answer {
-    Serves(u32, Row),
-    Idle(Row),
-    Refused(u32, usize),
-}
 
 // What an engine runs at a tick of a table, by what holds the first and the last unit of each of its rows.
 fn reply(
@@ -34,17 +27,19 @@ fn reply(
 ) -> Answer
     requires { ⌜ Formed (now b) rd ⌝ }
     requires { ⌜ (now starts ≡ startsOf (tableOf (now b) rd)) × (now ends ≡ endsOf (tableOf (now b) rd)) ⌝ }
-    ensures { λ r. ⌜ answerAs r ≡ replyOf (tableOf (now (b .entry)) rd) engine tick ⌝ }
+    ensures { λ r. ⌜ answerAs r ≡ ofEngine (tableOf (now (b .entry)) rd) engine (answer (replyOf (tableOf (now (b .entry)) rd) engine tick)) ⌝ }
 {
     if rd.engines <= engine.0 {
-        return Answer::Refused(18, 0);
+        let why = Refusal {
+            number: 18,
+            place: 0,
+        };
+        return Answer::Refused(why);
     }
     let t = rd.block_length as u64;
     let row = row_in(starts, ends, engine, tick / t);
-    match held(b, rd, row, (tick % t) as u32) {
-        Held::By(duty) => Answer::Serves(duty, row),
-        Held::Idle => Answer::Idle(row),
-    }
+    let holder = held(b, rd, row, (tick % t) as u32);
+    Answer::Replies(Reply { held: holder, row })
 }
 
 // What an engine runs at a tick, and on which row.
@@ -57,6 +52,6 @@ pub fn question(b: &[u8], engine: Engine, tick: u64) -> Answer
     let judged = ruling.judged;
     match judged {
         Judged::Accepted(rd) => reply(b, rd, &starts, &ends, engine, tick),
-        Judged::Bad(fault) => Answer::Refused(number_of(fault), place_of(fault)),
+        Judged::Bad(fault) => Answer::Refused(refusal_of(fault)),
     }
 }

@@ -7,7 +7,8 @@ use mathlib.Core.List.{List}
 use lib.ListN.{length}
 use Rattle.laws.proofs.Lists.{length-tab, getD-tab}
 use Rattle.paper.specs.declared.Reading.{Reading}
-use Rattle.paper.specs.Words.{duty, run, dutyAt, runAt}
+use Rattle.paper.specs.Duties.{duty, dutyAt}
+use Rattle.paper.specs.Words.{run, runAt}
 use Rattle.paper.specs.Bytes.{small, ticksIn, enginesIn, dutyPlace, runPlace, dutyIn, runIn, tableIn}
 use Rattle.paper.specs.Rules.{readingOf}
 use Rattle.paper.specs.Statements.{DutyRanged, RunRanged, Ranged}

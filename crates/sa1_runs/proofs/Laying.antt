@@ -9,7 +9,8 @@ use lib.ListN.{length, drop, length-append}
 use borrow.Author.Tests.{le-leb, lt-leb, lt-ltb, le-ltb}
 use Rattle.laws.proofs.Cases.{by-cases}
 use Rattle.paper.specs.declared.Duty.{Duty}
-use Rattle.paper.specs.Words.{row, slice, dutyAt}
+use Rattle.paper.specs.Duties.{dutyAt}
+use Rattle.paper.specs.Words.{row, slice}
 use Rattle.paper.specs.Sa1.{lay, layOne, rowAfter, unitAfter, slices}
 use Rattle.duty_lists.proofs.Duties.{slices-left, slices-none}
 use Rattle.sa1_runs.specs.declared.Place.{Place}

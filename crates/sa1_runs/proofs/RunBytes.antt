@@ -10,7 +10,8 @@ use Rattle.laws.specs.Lists.{flat}
 use Rattle.laws.proofs.Lists.{flat-append, flat-end, length-flat}
 use Rattle.paper.specs.declared.Duty.{Duty}
 use Rattle.paper.specs.declared.Run.{Run}
-use Rattle.paper.specs.Words.{run, slice, dutyAt}
+use Rattle.paper.specs.Duties.{dutyAt}
+use Rattle.paper.specs.Words.{run, slice}
 use Rattle.paper.specs.Sa1.{layOne, slices}
 use Rattle.paper.specs.Bytes.{small, runBytes, runLength}
 use Rattle.table_laws.proofs.Bytes.{length-run}

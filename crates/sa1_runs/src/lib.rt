@@ -5,8 +5,8 @@ ghost use Prim.Native.Nat.{_+_, _*_, _≤_, _<_};
 ghost use lib.ListN.{length};
 ghost use Rattle.paper.specs.Sa1.{slices};
 ghost use Rattle.paper.specs.Bytes.{small, mostTicks};
-ghost use Rattle.paper.specs.Builder.{dutiesOf};
-ghost use Rattle.duty_lists.specs.Ready.{Ready};
+ghost use Rattle.paper.specs.Wanted.{dutiesOf};
+ghost use Rattle.duty_lists.specs.Sliceable.{Sliceable};
 ghost use Rattle.sa1_runs.specs.Laying.{placeAfter, laidFrom, runsAt, corner, laidAt};
 ghost use Rattle.laws.specs.Lists.{over};
 ghost use Rattle.sa1_runs.specs.RunBytes.{runsBytes};
@@ -53,7 +53,7 @@ fn runs_at(t: u32, n: u32, unit: u32) -> usize
 
 // How many runs SA1 makes of the duties.
 pub fn count_runs(t: u32, services: &[u32], periods: &[u32]) -> usize
-    requires { ⌜ Ready t (now services) (now periods) ⌝ }
+    requires { ⌜ Sliceable t (now services) (now periods) ⌝ }
     ensures { λ r. ⌜ (r ≡ length (laidFrom t (slices t (dutiesOf (now (services .entry)) (now (periods .entry)))) 0 corner)) × (r ≤ 2 * length (now (services .entry))) ⌝ }
 {
     let mut runs = 0;

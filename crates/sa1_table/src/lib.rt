@@ -5,8 +5,8 @@ ghost use lib.ListN.{length};
 ghost use Rattle.laws.specs.Lists.{over, flat};
 ghost use Rattle.paper.specs.Sa1.{slices, sa1};
 ghost use Rattle.paper.specs.Bytes.{small, dutyBytes, encode};
-ghost use Rattle.paper.specs.Builder.{dutiesOf};
-ghost use Rattle.duty_lists.specs.Ready.{Paired, Ready};
+ghost use Rattle.paper.specs.Wanted.{dutiesOf};
+ghost use Rattle.duty_lists.specs.Sliceable.{Paired, Sliceable};
 ghost use Rattle.sa1_runs.specs.Laying.{laidFrom, corner};
 ghost use Rattle.sa1_runs.specs.RunBytes.{runsBytes};
 use duty_lists::duty_at;
@@ -35,7 +35,7 @@ fn put_duties(out: &mut [u8], services: &[u32], periods: &[u32])
 
 // Writes SA1's runs over the front of the lent rest, each duty's where the last one's stopped.
 fn put_runs(out: &mut [u8], t: u32, services: &[u32], periods: &[u32])
-    requires { ⌜ Ready t (now services) (now periods) × (11 * length (laidFrom t (slices t (dutiesOf (now services) (now periods))) 0 corner) ≤ length (now out)) ⌝ }
+    requires { ⌜ Sliceable t (now services) (now periods) × (11 * length (laidFrom t (slices t (dutiesOf (now services) (now periods))) 0 corner) ≤ length (now out)) ⌝ }
     ensures { λ r. ⌜ now (out .exit) ≡ over (runsBytes (laidFrom t (slices t (dutiesOf (now (services .entry)) (now (periods .entry)))) 0 corner)) (now (out .entry)) ⌝ }
 {
     let mut at = 0;
@@ -62,7 +62,7 @@ pub fn put_table(
     periods: &[u32],
     runs: usize,
 )
-    requires { ⌜ Ready t (now services) (now periods) × (runs ≡ length (laidFrom t (slices t (dutiesOf (now services) (now periods))) 0 corner)) × (runs ≤ 2 * length (now services)) × (10 + 9 * length (now services) + 11 * runs ≤ length (now out)) ⌝ }
+    requires { ⌜ Sliceable t (now services) (now periods) × (runs ≡ length (laidFrom t (slices t (dutiesOf (now services) (now periods))) 0 corner)) × (runs ≤ 2 * length (now services)) × (10 + 9 * length (now services) + 11 * runs ≤ length (now out)) ⌝ }
     ensures { λ r. ⌜ now (out .exit) ≡ over (encode small (sa1 t engines (dutiesOf (now (services .entry)) (now (periods .entry))))) (now (out .entry)) ⌝ }
 {
     let duties = services.len();

@@ -1,10 +1,33 @@
-// Arithmetic of a plan: the greatest common divisor, and a duty's slice.
+// Arithmetic of a plan: a number's and a duty's ranges, the greatest common divisor, and a duty's slice.
 ghost use mathlib.Core.Path.{_≡_};
 ghost use Prim.Native.Nat.{_*_, _/_, _%_, _≤_, _<_};
 ghost use Rattle.laws.specs.Divisor.{gcd, gcdOf};
 ghost use Rattle.paper.specs.Words.{slice, whole};
-ghost use Rattle.paper.specs.Bytes.{mostTicks};
+ghost use Rattle.paper.specs.Bytes.{mostTicks, within, dutyRanged};
 use paper::Duty;
+
+const MOST_TICKS: u32 = 1000000;
+
+// Whether a number is from low to high.
+pub fn is_within(low: usize, high: usize, v: usize) -> bool
+    ensures { λ r. ⌜ r ≡ within low high v ⌝ }
+{
+    (low <= v) & (v <= high)
+}
+
+// Whether a period is in range.
+pub fn period_in_range(period: u32) -> bool
+    ensures { λ r. ⌜ r ≡ within 1 mostTicks period ⌝ }
+{
+    (1 <= period) & (period <= MOST_TICKS)
+}
+
+// Whether a duty is in range: its period, and a service from 1 to it.
+pub fn duty_in_range(x: Duty) -> bool
+    ensures { λ r. ⌜ r ≡ dutyRanged x ⌝ }
+{
+    ((1 <= x.period) & (x.period <= MOST_TICKS)) & ((1 <= x.service) & (x.service <= x.period))
+}
 
 // The greatest common divisor, by Euclid's steps.
 pub fn gcd_of(a: u32, b: u32) -> u32

@@ -1,1 +1,1 @@
-pub mod Formed
+pub mod GoodForm

@@ -5,7 +5,7 @@ ghost use Prim.Native.Nat.{_≤_};
 ghost use Rattle.paper.specs.Outcome.{answer, andThen};
 ghost use Rattle.paper.specs.Bytes.{small, ticksIn, enginesIn, dutiesIn, badDuty, goodRuns, afterRuns, parse};
 ghost use Rattle.paper.specs.Rules.{readingOf};
-ghost use Rattle.table_form.specs.Told.{formAs};
+ghost use Rattle.table_form.specs.FormAs.{formAs};
 use paper::Reading;
 use record_read::duty_place;
 use record_read::read_four;

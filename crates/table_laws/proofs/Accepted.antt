@@ -14,7 +14,8 @@ use Rattle.laws.proofs.Search.{none-clear, clear-none}
 use Rattle.laws.proofs.Decides.{eqb-decides, none-found}
 use Rattle.laws.proofs.Divisor.{gcdOf-divides}
 use Rattle.paper.specs.declared.Duty.{Duty}
-use Rattle.paper.specs.Words.{duty, slice, blockLengthOf, dutyAt, runAt, Table}
+use Rattle.paper.specs.Duties.{duty, dutyAt}
+use Rattle.paper.specs.Words.{slice, blockLengthOf, runAt, Table}
 use Rattle.paper.specs.Outcome.{answer}
 use Rattle.paper.specs.Bytes.{Width, small, parse}
 use Rattle.paper.specs.Builder.{badSlice}

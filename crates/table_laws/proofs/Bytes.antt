@@ -10,10 +10,11 @@ use Rattle.laws.specs.Lists.{flat}
 use Rattle.laws.specs.Digits.{digits}
 use Rattle.laws.proofs.Lists.{length-flat}
 use Rattle.laws.proofs.Digits.{AreBytes, length-digits, bytes-one, bytes-append, bytes-field, bytes-flat}
-use Rattle.laws.proofs.Parts.{Holds, holds-all, holds-at, holds-left, holds-right, holds-flat}
+use Rattle.laws.proofs.Parts.{HasPart, holds-all, holds-at, holds-left, holds-right, holds-flat}
 use Rattle.paper.specs.declared.Duty.{Duty}
 use Rattle.paper.specs.declared.Run.{Run}
-use Rattle.paper.specs.Words.{duty, run, Table, dutyAt, runAt}
+use Rattle.paper.specs.Duties.{duty, dutyAt}
+use Rattle.paper.specs.Words.{run, Table, runAt}
 use Rattle.paper.specs.Bytes.{Width, headBytes, dutyBytes, runBytes, endBytes, encode, headLength, dutyLength, runLength, endLength, dutyPlace, runPlace}
 
 -- ---- lengths
@@ -67,20 +68,20 @@ length-encode w t =
 -- ---- what stands where
 
 -- all but the end record stands at the front
-body-stands : (w : Width) (t : Table) → Holds (encode w t) 0 (body w t)
+body-stands : (w : Width) (t : Table) → HasPart (encode w t) 0 (body w t)
 unfolding encode
 body-stands w t = holds-left (body w t) (endBytes (length (t .runs))) (holds-all (encode w t))
 
 -- and so does all before the runs
-front-stands : (w : Width) (t : Table) → Holds (encode w t) 0 (front w t)
+front-stands : (w : Width) (t : Table) → HasPart (encode w t) 0 (front w t)
 front-stands w t = holds-left (front w t) (flat (runBytes w) (t .runs)) (body-stands w t)
 
 -- the head stands at 0
-pub head-stands : (w : Width) (t : Table) → Holds (encode w t) 0 (headBytes w t)
+pub head-stands : (w : Width) (t : Table) → HasPart (encode w t) 0 (headBytes w t)
 head-stands w t = holds-left (headBytes w t) (flat dutyBytes (t .duties)) (front-stands w t)
 
 -- each duty's record stands at its place
-pub duty-stands : (w : Width) (t : Table) (d : ℕ) → d < length (t .duties) → Holds (encode w t) (dutyPlace w d) (dutyBytes (dutyAt (t .duties) d))
+pub duty-stands : (w : Width) (t : Table) (d : ℕ) → d < length (t .duties) → HasPart (encode w t) (dutyPlace w d) (dutyBytes (dutyAt (t .duties) d))
 duty-stands w t d h =
     holds-flat dutyBytes dutyLength length-duty (duty 0 0) (t .duties) (headLength w) d h
     (holds-at (0 + length (headBytes w t)) (headLength w) (omega (arith, length-head w t))
@@ -88,14 +89,14 @@ duty-stands w t d h =
 
 -- each run's record stands at its place
 pub run-stands :
-    (w : Width) (t : Table) (k : ℕ) → k < length (t .runs) → Holds (encode w t) (runPlace w (length (t .duties)) k) (runBytes w (runAt (t .runs) k))
+    (w : Width) (t : Table) (k : ℕ) → k < length (t .runs) → HasPart (encode w t) (runPlace w (length (t .duties)) k) (runBytes w (runAt (t .runs) k))
 run-stands w t k h =
     holds-flat (runBytes w) (runLength w) (length-run w) (run 0 0 0 0) (t .runs) (headLength w + dutyLength * length (t .duties)) k h
     (holds-at (0 + length (front w t)) (headLength w + dutyLength * length (t .duties)) (omega (arith, length-front w t))
     (holds-right (front w t) (flat (runBytes w) (t .runs)) (body-stands w t)))
 
 -- the end record stands after the last run's
-pub end-stands : (w : Width) (t : Table) → Holds (encode w t) (runPlace w (length (t .duties)) (length (t .runs))) (endBytes (length (t .runs)))
+pub end-stands : (w : Width) (t : Table) → HasPart (encode w t) (runPlace w (length (t .duties)) (length (t .runs))) (endBytes (length (t .runs)))
 unfolding encode
 end-stands w t =
     holds-at (0 + length (body w t)) (runPlace w (length (t .duties)) (length (t .runs))) (omega (arith, length-body w t))

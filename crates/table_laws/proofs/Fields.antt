@@ -14,15 +14,16 @@ use Rattle.laws.specs.Digits.{digits, numAt}
 use Rattle.laws.proofs.Cases.{and-both}
 use Rattle.laws.proofs.Lists.{tab-ext, tab-getD}
 use Rattle.laws.proofs.Digits.{length-digits}
-use Rattle.laws.proofs.Parts.{Holds, holds-left, holds-room, holds-first, holds-field}
+use Rattle.laws.proofs.Parts.{HasPart, holds-left, holds-room, holds-first, holds-field}
 use Rattle.paper.specs.declared.Duty.{Duty}
 use Rattle.paper.specs.declared.Run.{Run}
-use Rattle.paper.specs.Words.{duty, run, Table, dutyAt, runAt}
+use Rattle.paper.specs.Duties.{duty, dutyAt}
+use Rattle.paper.specs.Words.{run, Table, runAt}
 use Rattle.paper.specs.Bytes.{Width, headBytes, dutyBytes, runBytes, endBytes, encode, headLength, dutyLength, runLength, endLength, dutyPlace, runPlace, stands, ticksIn, enginesIn, dutiesIn, dutyIn, runIn, tableIn}
 use Rattle.table_laws.proofs.Bytes.{head-stands, duty-stands, run-stands}
 
 -- a record that stands somewhere is not cut short and is of its kind
-pub stands-there : {b : List ℕ} {at : ℕ} (kind size : ℕ) (body : List ℕ) → suc (length body) ≡ size → Holds b at (kind ∷ body) → stands b at kind size ≡ true
+pub stands-there : {b : List ℕ} {at : ℕ} (kind size : ℕ) (body : List ℕ) → suc (length body) ≡ size → HasPart b at (kind ∷ body) → stands b at kind size ≡ true
 unfolding stands
 stands-there {b} {at} kind size body e h =
     and-both (leb (at + size) (length b)) (eqb (getD b at 0) kind) (le-leb (at + size) (length b) (omega (arith, holds-room (kind ∷ body) h)))
@@ -46,7 +47,7 @@ pub record RunFits (w : Width) (x : Run) : Type 0 where
   pub first : x .first < 256 ^ 4
   pub length : x .length < 256 ^ 4
 
-module _ (w : Width) (t : Table) (b : List ℕ) (h : Holds b 0 (headBytes w t)) where
+module _ (w : Width) (t : Table) (b : List ℕ) (h : HasPart b 0 (headBytes w t)) where
   -- the head is of its kind
   pub head-kind : stands b 0 (w .headKind) (headLength w) ≡ true
   unfolding headBytes
@@ -78,12 +79,12 @@ module _ (w : Width) (t : Table) (b : List ℕ) (h : Holds b 0 (headBytes w t)) 
       (simp (length-append, length-digits)) (f .duties)
 
 -- a duty's record is of its kind
-pub duty-kind : (x : Duty) (b : List ℕ) (at : ℕ) → Holds b at (dutyBytes x) → stands b at 2 dutyLength ≡ true
+pub duty-kind : (x : Duty) (b : List ℕ) (at : ℕ) → HasPart b at (dutyBytes x) → stands b at 2 dutyLength ≡ true
 unfolding dutyBytes
 duty-kind x b at h = stands-there 2 dutyLength (digits 4 (x .service) ++ digits 4 (x .period)) (simp (length-append, length-digits)) h
 
 -- and reads as the duty
-pub duty-read : (x : Duty) (b : List ℕ) (at : ℕ) → Holds b at (dutyBytes x) → DutyFits x → dutyIn b at ≡ x
+pub duty-read : (x : Duty) (b : List ℕ) (at : ℕ) → HasPart b at (dutyBytes x) → DutyFits x → dutyIn b at ≡ x
 unfolding dutyBytes dutyIn
 duty-read x b at h f =
     rw (
@@ -92,14 +93,14 @@ duty-read x b at h f =
     )
 
 -- a run's record is of its kind
-pub run-kind : (w : Width) (x : Run) (b : List ℕ) (at : ℕ) → Holds b at (runBytes w x) → stands b at (w .runKind) (runLength w) ≡ true
+pub run-kind : (w : Width) (x : Run) (b : List ℕ) (at : ℕ) → HasPart b at (runBytes w x) → stands b at (w .runKind) (runLength w) ≡ true
 unfolding runBytes
 run-kind w x b at h =
     stands-there (w .runKind) (runLength w) (digits 1 (x .row .0) ++ digits (w .dutyField) (x .duty) ++ digits 4 (x .first) ++ digits 4 (x .length))
     (simp (length-append, length-digits) (omega arith)) h
 
 -- and reads as the run
-pub run-read : (w : Width) (x : Run) (b : List ℕ) (at : ℕ) → Holds b at (runBytes w x) → RunFits w x → runIn w b at ≡ x
+pub run-read : (w : Width) (x : Run) (b : List ℕ) (at : ℕ) → HasPart b at (runBytes w x) → RunFits w x → runIn w b at ≡ x
 unfolding runBytes runIn
 run-read w x b at h f =
     let a = w .runKind ∷ digits 1 (x .row .0) in
@@ -116,12 +117,12 @@ run-read w x b at h f =
     )
 
 -- the end record is of its kind
-pub end-kind : (n : ℕ) (b : List ℕ) (at : ℕ) → Holds b at (endBytes n) → stands b at 4 endLength ≡ true
+pub end-kind : (n : ℕ) (b : List ℕ) (at : ℕ) → HasPart b at (endBytes n) → stands b at 4 endLength ≡ true
 unfolding endBytes
 end-kind n b at h = stands-there 4 endLength (digits 2 n) (simp length-digits) h
 
 -- and reads as the number of runs
-pub end-read : (n : ℕ) (b : List ℕ) (at : ℕ) → Holds b at (endBytes n) → n < 256 ^ 2 → numAt 2 b (at + 1) ≡ n
+pub end-read : (n : ℕ) (b : List ℕ) (at : ℕ) → HasPart b at (endBytes n) → n < 256 ^ 2 → numAt 2 b (at + 1) ≡ n
 unfolding endBytes
 end-read n b at h f = holds-field (4 ∷ []) 2 n (at + 1) h (omega arith) f
 

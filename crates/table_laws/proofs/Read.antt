@@ -15,7 +15,8 @@ use Rattle.laws.proofs.Search.{none-clear, first-clear, first-le}
 use Rattle.laws.proofs.Lists.{length-tab, getD-tab}
 use Rattle.laws.proofs.Digits.{AreBytes, digits-numAt}
 use Rattle.laws.proofs.Parts.{cut-same, cut-join, cut-cons, cut-flat}
-use Rattle.paper.specs.Words.{duty, run, Table}
+use Rattle.paper.specs.Duties.{duty}
+use Rattle.paper.specs.Words.{run, Table}
 use Rattle.paper.specs.Outcome.{answer}
 use Rattle.paper.specs.Bytes.{Width, headBytes, dutyBytes, runBytes, endBytes, encode, headLength, dutyLength, runLength, endLength, dutyPlace, runPlace, ticksIn, enginesIn, dutiesIn, dutyIn, runIn, headGood, dutyGood, runGood, endGood, badDuty, goodRuns, tableIn, afterRuns, afterHead, parse}
 use Rattle.paper.specs.Statements.{DutyRanged, RunRanged, Ranged}
@@ -71,7 +72,7 @@ module _ (w : Width) (b : List ℕ) (y : AreBytes b) where
 -- ---- the whole
 
 -- every record passed, and nothing follows the end record
-pub record Formed (w : Width) (b : List ℕ) (n k : ℕ) : Type 0 where
+pub record InForm (w : Width) (b : List ℕ) (n k : ℕ) : Type 0 where
   pub head : HeadTold w b
   pub count : dutiesIn w b ≡ n
   pub each-duty : (d : ℕ) → d < n → Standing b (dutyPlace w d) 2 dutyLength × DutyRanged (dutyIn b (dutyPlace w d))
@@ -84,7 +85,7 @@ pub record Formed (w : Width) (b : List ℕ) (n k : ℕ) : Type 0 where
 -- bytes that read as a table are in form, and the table is the one in them
 pub parsed :
     (w : Width) (b : List ℕ) (t : Table) → parse w b ≡ answer t
-    → Formed w b (dutiesIn w b) (goodRuns w b (dutiesIn w b)) × (tableIn w b (dutiesIn w b) (goodRuns w b (dutiesIn w b)) ≡ t)
+    → InForm w b (dutiesIn w b) (goodRuns w b (dutiesIn w b)) × (tableIn w b (dutiesIn w b) (goodRuns w b (dutiesIn w b)) ≡ t)
 unfolding parse afterHead afterRuns badDuty goodRuns
 parsed w b t h =
     let n = dutiesIn w b in
@@ -109,7 +110,7 @@ parsed w b t h =
     )
 
 -- the table in bytes that are in form is in range
-pub formed-ranged : (w : Width) (b : List ℕ) (n k : ℕ) → Formed w b n k → Ranged w (tableIn w b n k)
+pub formed-ranged : (w : Width) (b : List ℕ) (n k : ℕ) → InForm w b n k → Ranged w (tableIn w b n k)
 unfolding tableIn
 formed-ranged w b n k f =
     record {
@@ -127,12 +128,12 @@ formed-ranged w b n k f =
     }
 
 -- the head of that table's bytes is the head of these
-head-formed : (w : Width) (b : List ℕ) (n k : ℕ) → AreBytes b → Formed w b n k → headBytes w (tableIn w b n k) ≡ take (headLength w) (drop 0 b)
+head-formed : (w : Width) (b : List ℕ) (n k : ℕ) → AreBytes b → InForm w b n k → headBytes w (tableIn w b n k) ≡ take (headLength w) (drop 0 b)
 unfolding headBytes tableIn
 head-formed w b n k y f = rw (length-tab, ← f .count) (head-again w b y (f .head))
 
 -- and its bytes are those
-pub formed-encode : (w : Width) (b : List ℕ) (n k : ℕ) → AreBytes b → Formed w b n k → encode w (tableIn w b n k) ≡ b
+pub formed-encode : (w : Width) (b : List ℕ) (n k : ℕ) → AreBytes b → InForm w b n k → encode w (tableIn w b n k) ≡ b
 unfolding encode tableIn
 formed-encode w b n k y f =
     let h = headLength w in

@@ -17,7 +17,8 @@ use Rattle.laws.proofs.Search.{Clear, none-clear, clear-none}
 use Rattle.laws.proofs.Decides.{Decides, eqb-decides}
 use Rattle.paper.specs.declared.Duty.{Duty}
 use Rattle.paper.specs.declared.Run.{Run}
-use Rattle.paper.specs.Words.{stop, dutyAt, runAt, whole}
+use Rattle.paper.specs.Duties.{dutyAt}
+use Rattle.paper.specs.Words.{stop, runAt, whole}
 use Rattle.paper.specs.Rules.{before, meet, unordered, overlaps, joins, twice, lowest}
 use Rattle.paper.specs.Statements.{Has, Apart}
 

@@ -13,7 +13,8 @@ use Rattle.laws.specs.Digits.{digits, numAt}
 use Rattle.laws.proofs.Cases.{lt-or-le}
 use Rattle.laws.proofs.Search.{first-is, first-none}
 use Rattle.laws.proofs.Parts.{holds-first}
-use Rattle.paper.specs.Words.{stop, Table, dutyAt, runAt}
+use Rattle.paper.specs.Duties.{dutyAt}
+use Rattle.paper.specs.Words.{stop, Table, runAt}
 use Rattle.paper.specs.Outcome.{answer}
 use Rattle.paper.specs.Bytes.{Width, small, mostTicks, endBytes, encode, endLength, dutyPlace, runPlace, runLength, stands, headGood, dutyGood, runGood, endGood, badDuty, goodRuns, afterRuns, afterHead, parse}
 use Rattle.paper.specs.Statements.{Ranged}

@@ -12,7 +12,8 @@ use Rattle.laws.proofs.Each.{at-each}
 use Rattle.laws.proofs.Lists.{length-tab, getD-tab}
 use Rattle.laws.proofs.Listing.{flat-most}
 use Rattle.paper.specs.declared.Reading.{Reading}
-use Rattle.paper.specs.Words.{Table, run, dutyAt, runAt}
+use Rattle.paper.specs.Duties.{dutyAt}
+use Rattle.paper.specs.Words.{Table, run, runAt}
 use Rattle.paper.specs.Statements.{DutyRanged, RunRanged}
 use Rattle.paper.specs.Text.{printLine, planWord, dutyWord, runWord, planLine, dutyLine, runLine}
 use Rattle.record_read.specs.Formed.{Formed, tableOf}
@@ -24,18 +25,25 @@ use Rattle.table_lines.specs.Parts.{dutyLines, runLines}
 
 pub duties-most : (b : List ℕ) (rd : Reading) → Formed b rd → length (dutyLines (tableOf b rd)) ≤ 1856
 duties-most b rd F =
-    omega (arith, F .duties-most, table-duties b rd, length-tab (length (t .duties)) (λ i. i), flat-most (dutyLine (t .duties)) 29 (tab (length (t .duties)) (λ i. i)) (at-each _ 0 (tab (length (t .duties)) (λ i. i)) each))
+    omega (arith, F .duties-most, table-duties b rd, length-tab (length (t .duties)) (λ i. i), flat-most (dutyLine (t .duties)) 29 numbers (at-each _ 0 numbers each))
   where
     t : Table
     t = tableOf b rd
 
-    each : (k : ℕ) → k < length (tab (length (t .duties)) (λ i. i)) → length (dutyLine (t .duties) (getD (tab (length (t .duties)) (λ i. i)) k 0)) ≤ 29
+    numbers : List ℕ
+    numbers = tab (length (t .duties)) (λ i. i)
+
+    each : (k : ℕ) → k < length numbers → length (dutyLine (t .duties) (getD numbers k 0)) ≤ 29
     each k h =
         let l : k < length (t .duties) = rw length-tab at h in
         let x = dutyAt (t .duties) k in
         let r : DutyRanged x = table-ranged b rd F .duty-ranged k l in
         rw (getD-tab (length (t .duties)) (λ i. i) 0 k l)
-        (omega (arith, line-most 6 dutyWord (k ∷ x .service ∷ x .period ∷ []) (omega (arith, table-duties b rd, F .duties-most), (omega (arith, r), (omega (arith, r), tt)))))
+        (omega (
+          arith,
+          line-most 6 dutyWord (k ∷ x .service ∷ x .period ∷ [])
+              (omega (arith, table-duties b rd, F .duties-most), (omega (arith, r), (omega (arith, r), tt))),
+        ))
 
 pub runs-most : (b : List ℕ) (rd : Reading) → Formed b rd → length (runLines (tableOf b rd)) ≤ 4608
 runs-most b rd F =
@@ -51,7 +59,11 @@ runs-most b rd F =
         let T : t .ticks ≤ 1_000_000 = table-ranged b rd F .ticks-most in
         let E : t .engines ≤ 32 = table-ranged b rd F .engines-most in
         let D : length (t .duties) ≤ 64 = table-ranged b rd F .duties-most in
-        omega (arith, line-most 6 runWord (x .row .0 ∷ x .duty ∷ x .first ∷ x .length ∷ []) (omega (arith, r), (omega (arith, r), (omega (arith, r), (omega (arith, r), tt)))))
+        omega (
+          arith,
+          line-most 6 runWord (x .row .0 ∷ x .duty ∷ x .first ∷ x .length ∷ [])
+              (omega (arith, r), (omega (arith, r), (omega (arith, r), (omega (arith, r), tt)))),
+        )
 
 -- ---- what they are
 

@@ -5,9 +5,9 @@ ghost use lib.ListN.{length};
 ghost use Rattle.paper.specs.Bytes.{mostTicks};
 ghost use Rattle.paper.specs.Text.{printLine, planWord, dutyWord, runLine, chainWord, loadsWord};
 ghost use Rattle.record_read.specs.Formed.{Formed, tableOf};
-ghost use Rattle.number_print.specs.Puts.{Puts};
+ghost use Rattle.paper.specs.Outcome.{Puts};
 ghost use Rattle.table_lines.specs.Parts.{dutyLines, runLines, tableLines};
-use line_print::put_line;
+use line_print::print_line;
 use paper::Duty;
 use paper::Reading;
 use paper::Run;
@@ -15,26 +15,26 @@ use record_read::duty_of;
 use record_read::run_of;
 
 // The plan: block length, engines, duties.
-fn put_head(out: &mut [u8], rd: Reading) -> usize
+fn print_plan_line(out: &mut [u8], rd: Reading) -> usize
     requires { ⌜ (rd .«block_length» ≤ mostTicks) × (rd .engines ≤ 32) × (rd .duties ≤ 64) × (29 ≤ length (now out)) ⌝ }
     ensures { λ r. ⌜ Puts (printLine planWord (rd .«block_length» ∷ rd .engines ∷ rd .duties ∷ [])) (now (out .entry)) (now (out .exit)) r ⌝ }
     ensures { λ r. ⌜ r ≤ 29 ⌝ }
 {
     let numbers = [rd.block_length as u64, rd.engines as u64, rd.duties as u64];
-    put_line(out, b"plan", &numbers)
+    print_line(out, b"plan", &numbers)
 }
 
 // A duty: number, service, period.
-fn put_duty(out: &mut [u8], i: u64, x: Duty) -> usize
+fn print_duty(out: &mut [u8], i: u64, x: Duty) -> usize
     requires { ⌜ length (printLine dutyWord (i ∷ x .service ∷ x .period ∷ [])) ≤ length (now out) ⌝ }
     ensures { λ r. ⌜ Puts (printLine dutyWord (i ∷ x .service ∷ x .period ∷ [])) (now (out .entry)) (now (out .exit)) r ⌝ }
 {
     let numbers = [i, x.service as u64, x.period as u64];
-    put_line(out, b"duty", &numbers)
+    print_line(out, b"duty", &numbers)
 }
 
 // A run: row, duty, first unit, length.
-fn put_run(out: &mut [u8], x: Run) -> usize
+fn print_run(out: &mut [u8], x: Run) -> usize
     requires { ⌜ length (runLine x) ≤ length (now out) ⌝ }
     ensures { λ r. ⌜ Puts (runLine x) (now (out .entry)) (now (out .exit)) r ⌝ }
 {
@@ -44,11 +44,11 @@ fn put_run(out: &mut [u8], x: Run) -> usize
         x.first as u64,
         x.length as u64,
     ];
-    put_line(out, b"run", &numbers)
+    print_line(out, b"run", &numbers)
 }
 
 // The duties, one line each.
-fn put_duties(out: &mut [u8], b: &[u8], rd: Reading) -> usize
+fn print_duties(out: &mut [u8], b: &[u8], rd: Reading) -> usize
     requires { ⌜ Formed (now b) rd ⌝ }
     requires { ⌜ 1856 ≤ length (now out) ⌝ }
     ensures { λ r. ⌜ Puts (dutyLines (tableOf (now (b .entry)) rd)) (now (out .entry)) (now (out .exit)) r ⌝ }
@@ -58,14 +58,14 @@ fn put_duties(out: &mut [u8], b: &[u8], rd: Reading) -> usize
     let mut at = 0;
     let mut i = 0;
     while i < n {
-        at += put_duty(&mut out[at..], i as u64, duty_of(b, rd, i));
+        at += print_duty(&mut out[at..], i as u64, duty_of(b, rd, i));
         i += 1;
     }
     at
 }
 
 // The runs, in table order.
-fn put_runs(out: &mut [u8], b: &[u8], rd: Reading) -> usize
+fn print_runs(out: &mut [u8], b: &[u8], rd: Reading) -> usize
     requires { ⌜ Formed (now b) rd ⌝ }
     requires { ⌜ 4608 ≤ length (now out) ⌝ }
     ensures { λ r. ⌜ Puts (runLines (tableOf (now (b .entry)) rd)) (now (out .entry)) (now (out .exit)) r ⌝ }
@@ -75,40 +75,40 @@ fn put_runs(out: &mut [u8], b: &[u8], rd: Reading) -> usize
     let mut at = 0;
     let mut k = 0;
     while k < n {
-        at += put_run(&mut out[at..], run_of(b, rd, k));
+        at += print_run(&mut out[at..], run_of(b, rd, k));
         k += 1;
     }
     at
 }
 
 // What stands in the table: plan, duties, runs.
-pub fn put_table(out: &mut [u8], b: &[u8], rd: Reading) -> usize
+pub fn print_table(out: &mut [u8], b: &[u8], rd: Reading) -> usize
     requires { ⌜ Formed (now b) rd ⌝ }
     requires { ⌜ 6493 ≤ length (now out) ⌝ }
     ensures { λ r. ⌜ Puts (tableLines (tableOf (now (b .entry)) rd)) (now (out .entry)) (now (out .exit)) r ⌝ }
     ensures { λ r. ⌜ r ≤ 6493 ⌝ }
 {
-    let duties = put_head(out, rd);
-    let runs = duties + put_duties(&mut out[duties..], b, rd);
-    runs + put_runs(&mut out[runs..], b, rd)
+    let duties = print_plan_line(out, rd);
+    let runs = duties + print_duties(&mut out[duties..], b, rd);
+    runs + print_runs(&mut out[runs..], b, rd)
 }
 
 // A chain: first row, length.
-pub fn put_chain(out: &mut [u8], first: u32, rows: u32) -> usize
+pub fn print_chain(out: &mut [u8], first: u32, rows: u32) -> usize
     requires { ⌜ (first < 100) × (rows < 100) × (12 ≤ length (now out)) ⌝ }
     ensures { λ r. ⌜ Puts (printLine chainWord (first ∷ rows ∷ [])) (now (out .entry)) (now (out .exit)) r ⌝ }
     ensures { λ r. ⌜ r ≤ 12 ⌝ }
 {
     let numbers = [first as u64, rows as u64];
-    put_line(out, b"chain", &numbers)
+    print_line(out, b"chain", &numbers)
 }
 
 // The loads: in block 0, in each later block.
-pub fn put_loads(out: &mut [u8], first: u32, later: u32) -> usize
+pub fn print_loads(out: &mut [u8], first: u32, later: u32) -> usize
     requires { ⌜ (first ≤ 128) × (later ≤ 128) × (22 ≤ length (now out)) ⌝ }
     ensures { λ r. ⌜ Puts (printLine loadsWord (first ∷ later ∷ [])) (now (out .entry)) (now (out .exit)) r ⌝ }
     ensures { λ r. ⌜ r ≤ 22 ⌝ }
 {
     let numbers = [first as u64, later as u64];
-    put_line(out, b"loads", &numbers)
+    print_line(out, b"loads", &numbers)
 }

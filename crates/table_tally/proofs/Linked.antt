@@ -15,7 +15,8 @@ use Rattle.paper.specs.declared.Run.{Run}
 use Rattle.paper.specs.declared.Reading.{Reading}
 use Rattle.paper.specs.declared.Held.{Held}
 use Rattle.paper.specs.declared.Held.the-variants.{Idle, By}
-use Rattle.paper.specs.Words.{row, Table, runAt, heldIn, same}
+use Rattle.paper.specs.Duties.{same}
+use Rattle.paper.specs.Words.{row, Table, runAt, heldIn}
 use Rattle.paper.specs.Rotation.{link}
 use Rattle.paper.proofs.Holding.{held-none, same-idle}
 use Rattle.paper.proofs.Links.{link-is}

@@ -13,19 +13,21 @@ use Rattle.laws.specs.Lists.{tab, same-list}
 use Rattle.laws.proofs.Cases.{by-cases}
 use Rattle.paper.specs.declared.Row.{Row}
 use Rattle.paper.specs.declared.Engine.{Engine}
-use Rattle.paper.specs.Words.{engine, Table}
+use Rattle.paper.specs.Duties.{engine}
+use Rattle.paper.specs.Words.{Table}
 use Rattle.paper.specs.Rotation.{link, rowAt}
 use Rattle.paper.specs.Bytes.{small}
 use Rattle.paper.specs.Outcome.{Outcome, refused, answer, andThen}
 use Rattle.paper.specs.Rules.{accepted}
 use Rattle.paper.specs.Statements.{Ranged}
-use Rattle.paper.specs.Answers.{State, rowsAt, rowTold, advanced}
+use Rattle.paper.specs.declared.State.{State}
+use Rattle.paper.specs.declared.Dispatched.{Dispatched}
+use Rattle.paper.specs.Answers.{rowsAt, Hands, rowTold, advanced}
 use Rattle.table_laws.proofs.AcceptedBytes.{accepted-ranged}
 use Rattle.paper.proofs.Links.{closed, rows-end}
 use Rattle.paper.proofs.Rotation.{row-below}
-use Rattle.dispatcher.specs.Told.{Handed, handed}
-use Rattle.face_entries.specs.StateEntries.{stateIn}
-use Rattle.tickplume.proofs.Narrowed.{most, cut-same}
+use Rattle.paper.specs.Face.{stateIn}
+use Rattle.tickplume.proofs.Narrowed.{most, entries-cut}
 
 -- the state with its entries cut
 abbrev pub cutState : List ℕ → State
@@ -42,7 +44,7 @@ rows-small t g b e =
 own-same : (t : Table) → Ranged small t → (l : List ℕ) → same-list (cutState l .rows) (rowsAt t (getD l 0 0)) ≡ same-list (stateIn l .rows) (rowsAt t (getD l 0 0))
 unfolding rowsAt
 own-same t g l =
-    cut-same (λ e. getD l (e + 1) 0) (λ e. pick (ltb e (t .engines)) (rowAt (link t) (getD l 0 0) (engine e) .0) 0)
+    entries-cut (λ e. getD l (e + 1) 0) (λ e. pick (ltb e (t .engines)) (rowAt (link t) (getD l 0 0) (engine e) .0) 0)
     (λ e h. rows-small t g (getD l 0 0) e)
 
 -- what is asked of accepted bytes, where two ways to ask it come to the same for each table in range
@@ -67,11 +69,11 @@ next-cut b l = asked-same b _ _ (λ t g. rw (own-same t g l))
 abbrev AreCut : List ℕ → List ℕ → Type 0
 AreCut l rows = rows ≡ tab 32 (λ e. min (getD l (e + 1) 0) most)
 
-abbrev taken : List ℕ → List ℕ → State
-taken l rows = record { block = getD l 0 0; rows = rows }
+abbrev lentState : List ℕ → List ℕ → State
+lentState l rows = record { block = getD l 0 0; rows = rows }
 
-pub row-asked : (b l : List ℕ) (e : Engine) (rows : List ℕ) {o : Outcome Row} → AreCut l rows → o ≡ rowTold b (taken l rows) e → o ≡ rowTold b (stateIn l) e
-row-asked b l e rows q h = h ∙ ap (λ rs. rowTold b (taken l rs) e) q ∙ row-cut b l e
+pub row-asked : (b l : List ℕ) (e : Engine) (rows : List ℕ) {o : Outcome Row} → AreCut l rows → o ≡ rowTold b (lentState l rows) e → o ≡ rowTold b (stateIn l) e
+row-asked b l e rows q h = h ∙ ap (λ rs. rowTold b (lentState l rs) e) q ∙ row-cut b l e
 
-pub next-asked : (b l : List ℕ) (rows : List ℕ) {r : Handed} → AreCut l rows → r ≡ handed (advanced b (taken l rows)) → r ≡ handed (advanced b (stateIn l))
-next-asked b l rows q h = h ∙ ap (λ rs. handed (advanced b (taken l rs))) q ∙ ap handed (next-cut b l)
+pub next-asked : (b l : List ℕ) (rows : List ℕ) {r : Dispatched} → AreCut l rows → Hands (advanced b (lentState l rows)) r → Hands (advanced b (stateIn l)) r
+next-asked b l rows q h = rw (ap (λ rs. advanced b (lentState l rs)) q ∙ next-cut b l) at h

@@ -3,4 +3,3 @@ pub mod Building
 pub mod Narrowed
 pub mod Cut
 pub mod Handing
-pub mod OneOutcome

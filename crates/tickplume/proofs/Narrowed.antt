@@ -39,8 +39,8 @@ plain-cut f g small h = tab-ext 32 (λ e. min (f e) most) g same
         let z : f e ≡ g e = sym (getD-tab 32 f 0 e l) ∙ ap (λ (xs : List ℕ). getD xs e 0) h ∙ getD-tab 32 g 0 e l in
         omega (arith, z, small e l)
 
-pub cut-same : (f g : ℕ → ℕ) → ((e : ℕ) → e < 32 → g e < most) → same-list (cut f) (tab 32 g) ≡ same-list (plain f) (tab 32 g)
-cut-same f g small =
+pub entries-cut : (f g : ℕ → ℕ) → ((e : ℕ) → e < 32 → g e < most) → same-list (cut f) (tab 32 g) ≡ same-list (plain f) (tab 32 g)
+entries-cut f g small =
     by-cases (same-list (cut f) (tab 32 g))
     (λ p. p ∙ sym (same-list-of-eq (plain f) (tab 32 g) (cut-plain f g small (same-list-eq (cut f) (tab 32 g) p))))
     (λ p. by-cases (same-list (plain f) (tab 32 g))

@@ -3,21 +3,23 @@
 // a refused call writes nothing.
 ghost use mathlib.Core.Path.{_≡_};
 ghost use Rattle.paper.specs.Outcome.{leaves};
-ghost use Rattle.tickplume.specs.Face.{Told, buildCall, buildEntries, judgeCall, questionCall, startCall, rowCall, nextCall, countCall};
-use build_fitting::Built;
-use dispatch_state::RowTold;
+ghost use Rattle.paper.specs.Wanted.{wanted};
+ghost use Rattle.paper.specs.Face.{Tells, buildCall, buildEntries, judgeCall, questionCall, startCall, rowCall, nextCall, countCall};
 use dispatcher::Dispatcher;
-use dispatcher::Verdict;
 use face_entries::put_reading;
 use face_entries::put_reply;
 use face_entries::put_state;
-use face_entries::refusal;
 use face_entries::rows_in;
-use load_count::Counted;
+use face_entries::too_short;
+use face_entries::word_of;
+use paper::Answer;
+use paper::Counted;
 use paper::Engine;
-use paper::Held;
 use paper::Judged;
-use question::Answer;
+use paper::RowTold;
+use paper::State;
+use paper::Verdict;
+use paper::Written;
 
 // SA1's plan of the duties, into the lent table.
 #[no_mangle]
@@ -28,15 +30,15 @@ pub extern "C" fn tickplume_build(
     table: &mut [u8],
     answer: &mut [u64],
 ) -> u64
-    ensures { λ r. ⌜ Told (buildEntries (buildCall engines (now (services .entry)) (now (periods .entry)) (now (table .entry)) (now (answer .entry)))) r (now (answer .entry)) (now (answer .exit)) ⌝ }
-    ensures { λ r. ⌜ now (table .exit) ≡ leaves (buildCall engines (now (services .entry)) (now (periods .entry)) (now (table .entry)) (now (answer .entry))) (now (table .entry)) ⌝ }
+    ensures { λ r. ⌜ Tells (buildEntries (buildCall (wanted engines (now (services .entry)) (now (periods .entry))) (now (table .entry)) (now (answer .entry)))) r (now (answer .entry)) (now (answer .exit)) ⌝ }
+    ensures { λ r. ⌜ now (table .exit) ≡ leaves (buildCall (wanted engines (now (services .entry)) (now (periods .entry))) (now (table .entry)) (now (answer .entry))) (now (table .entry)) ⌝ }
 {
     if answer.len() < 1 {
-        return refusal(255, 1);
+        return too_short(1);
     }
     match builder::build(engines, services, periods, table) {
-        Built::Refused(number, place) => refusal(number, place),
-        Built::Length(length) => {
+        Written::Refused(why) => word_of(why),
+        Written::Length(length) => {
             answer[0] = length as u64;
             0
         }
@@ -46,13 +48,13 @@ pub extern "C" fn tickplume_build(
 // The reading of any bytes, or the fault.
 #[no_mangle]
 pub extern "C" fn tickplume_judge(table: &[u8], answer: &mut [u64]) -> u64
-    ensures { λ r. ⌜ Told (judgeCall (now (table .entry)) (now (answer .entry))) r (now (answer .entry)) (now (answer .exit)) ⌝ }
+    ensures { λ r. ⌜ Tells (judgeCall (now (table .entry)) (now (answer .entry))) r (now (answer .entry)) (now (answer .exit)) ⌝ }
 {
     if answer.len() < 4 {
-        return refusal(255, 4);
+        return too_short(4);
     }
     match judge::judge(table) {
-        Judged::Bad(fault) => refusal(judge::number_of(fault), judge::place_of(fault)),
+        Judged::Bad(fault) => word_of(judge::refusal_of(fault)),
         Judged::Accepted(rd) => {
             put_reading(answer, rd);
             0
@@ -68,19 +70,15 @@ pub extern "C" fn tickplume_question(
     tick: u64,
     answer: &mut [u64],
 ) -> u64
-    ensures { λ r. ⌜ Told (questionCall (now (table .entry)) engine tick (now (answer .entry))) r (now (answer .entry)) (now (answer .exit)) ⌝ }
+    ensures { λ r. ⌜ Tells (questionCall (now (table .entry)) engine tick (now (answer .entry))) r (now (answer .entry)) (now (answer .exit)) ⌝ }
 {
     if answer.len() < 2 {
-        return refusal(255, 2);
+        return too_short(2);
     }
     match question::question(table, Engine(engine), tick) {
-        Answer::Refused(number, place) => refusal(number, place),
-        Answer::Serves(duty, row) => {
-            put_reply(answer, row, Held::By(duty));
-            0
-        }
-        Answer::Idle(row) => {
-            put_reply(answer, row, Held::Idle);
+        Answer::Refused(why) => word_of(why),
+        Answer::Replies(reply) => {
+            put_reply(answer, reply);
             0
         }
     }
@@ -89,15 +87,15 @@ pub extern "C" fn tickplume_question(
 // The dispatcher's state for a block.
 #[no_mangle]
 pub extern "C" fn tickplume_start(table: &[u8], block: u64, state: &mut [u64]) -> u64
-    ensures { λ r. ⌜ Told (startCall (now (table .entry)) block (now (state .entry))) r (now (state .entry)) (now (state .exit)) ⌝ }
+    ensures { λ r. ⌜ Tells (startCall (now (table .entry)) block (now (state .entry))) r (now (state .entry)) (now (state .exit)) ⌝ }
 {
     if state.len() < 33 {
-        return refusal(255, 33);
+        return too_short(33);
     }
     let done = Dispatcher::start(table, block);
     let verdict = done.verdict;
     match verdict {
-        Verdict::Refused(number, place) => refusal(number, place),
+        Verdict::Refused(why) => word_of(why),
         Verdict::Done => {
             let next = done.state;
             let rows = next.rows;
@@ -110,21 +108,19 @@ pub extern "C" fn tickplume_start(table: &[u8], block: u64, state: &mut [u64]) -
 // The row of an engine in the state's block.
 #[no_mangle]
 pub extern "C" fn tickplume_row(table: &[u8], state: &[u64], engine: u32, answer: &mut [u64]) -> u64
-    ensures { λ r. ⌜ Told (rowCall (now (table .entry)) (now (state .entry)) engine (now (answer .entry))) r (now (answer .entry)) (now (answer .exit)) ⌝ }
+    ensures { λ r. ⌜ Tells (rowCall (now (table .entry)) (now (state .entry)) engine (now (answer .entry))) r (now (answer .entry)) (now (answer .exit)) ⌝ }
 {
     if state.len() < 33 {
-        return refusal(255, 33);
+        return too_short(33);
     }
     if answer.len() < 1 {
-        return refusal(255, 1);
+        return too_short(1);
     }
     let rows = rows_in(state);
-    let here = Dispatcher {
-        block: state[0],
-        rows,
-    };
+    let block = state[0];
+    let here = Dispatcher(State { block, rows });
     match here.row(table, Engine(engine)) {
-        RowTold::Refused(number, place) => refusal(number, place),
+        RowTold::Refused(why) => word_of(why),
         RowTold::At(row) => {
             answer[0] = row.0 as u64;
             0
@@ -135,20 +131,18 @@ pub extern "C" fn tickplume_row(table: &[u8], state: &[u64], engine: u32, answer
 // The state of the next block, in the place of this one.
 #[no_mangle]
 pub extern "C" fn tickplume_next(table: &[u8], state: &mut [u64]) -> u64
-    ensures { λ r. ⌜ Told (nextCall (now (table .entry)) (now (state .entry))) r (now (state .entry)) (now (state .exit)) ⌝ }
+    ensures { λ r. ⌜ Tells (nextCall (now (table .entry)) (now (state .entry))) r (now (state .entry)) (now (state .exit)) ⌝ }
 {
     if state.len() < 33 {
-        return refusal(255, 33);
+        return too_short(33);
     }
     let rows = rows_in(state);
-    let here = Dispatcher {
-        block: state[0],
-        rows,
-    };
+    let block = state[0];
+    let here = Dispatcher(State { block, rows });
     let done = here.next(table);
     let verdict = done.verdict;
     match verdict {
-        Verdict::Refused(number, place) => refusal(number, place),
+        Verdict::Refused(why) => word_of(why),
         Verdict::Done => {
             let next = done.state;
             let rows = next.rows;
@@ -161,13 +155,13 @@ pub extern "C" fn tickplume_next(table: &[u8], state: &mut [u64]) -> u64
 // The loads of the first blocks.
 #[no_mangle]
 pub extern "C" fn tickplume_count(table: &[u8], blocks: u64, answer: &mut [u64]) -> u64
-    ensures { λ r. ⌜ Told (countCall (now (table .entry)) blocks (now (answer .entry))) r (now (answer .entry)) (now (answer .exit)) ⌝ }
+    ensures { λ r. ⌜ Tells (countCall (now (table .entry)) blocks (now (answer .entry))) r (now (answer .entry)) (now (answer .exit)) ⌝ }
 {
     if answer.len() < 1 {
-        return refusal(255, 1);
+        return too_short(1);
     }
     match load_count::count(table, blocks) {
-        Counted::Refused(number, place) => refusal(number, place),
+        Counted::Refused(why) => word_of(why),
         Counted::Loads(loads) => {
             answer[0] = loads;
             0

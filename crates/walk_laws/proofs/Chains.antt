@@ -12,7 +12,7 @@ use borrow.Author.Tests.{eq-eqb, ne-eqb, le-leb, lt-leb, lt-ltb, le-ltb}
 use Rattle.laws.specs.Choice.{one-if}
 use Rattle.laws.proofs.Cases.{by-cases, lt-or-le, not-both}
 use Rattle.laws.proofs.Sum.{sum-ext, count-stretch}
-use Rattle.paper.specs.Words.{engine}
+use Rattle.paper.specs.Duties.{engine}
 use Rattle.paper.specs.Rotation.{firstOf, nextOf, rowAt, chainLength, chainsBelow}
 use Rattle.paper.proofs.Rotation.{first-linked, first-least, first-twice, first-links, first-past, next-linked, next-last}
 
@@ -55,8 +55,8 @@ module _ (c : ℕ → Bool) where
   chain-last {e} {from} {to} i p = lt-or-le e to (λ l. not-both (i .linked e (i .low) l) p) (λ l. omega arith)
 
   -- one place on, and b more, is suc b places on; from the last place that is once round and b places from the first
-  round : {e from to : ℕ} (b : ℕ) → InChain c e from to → (nextOf c e - from + b) % (to + 1 - from) ≡ (e - from + suc b) % (to + 1 - from)
-  round {e} {from} {to} b i =
+  round-on : {e from to : ℕ} (b : ℕ) → InChain c e from to → (nextOf c e - from + b) % (to + 1 - from) ≡ (e - from + suc b) % (to + 1 - from)
+  round-on {e} {from} {to} b i =
       by-cases (c e)
       (λ p. ap (λ n. n % (to + 1 - from)) (omega (arith, next-linked c e p)))
       (λ p. let y : nextOf c e - from + b ≡ b = omega (arith, next-last c e p, chain-first i) in
@@ -74,7 +74,7 @@ module _ (c : ℕ → Bool) where
   pub row-closed : (b : ℕ) {e from to : ℕ} → InChain c e from to → rowAt c b (engine e) .0 ≡ from + (e - from + b) % (to + 1 - from)
   unfolding rowAt
   row-closed zero {e} {from} {to} i = omega (arith, mod-eq-of-lt {n = e - from + 0} {m = to + 1 - from} (omega arith))
-  row-closed (suc b) {e} {from} {to} i = row-closed b (chain-next i) ∙ ap (λ n. from + n) (round b i)
+  row-closed (suc b) {e} {from} {to} i = row-closed b (chain-next i) ∙ ap (λ n. from + n) (round-on b i)
 
   -- .. with the blocks reduced first, so that no large number is added
   pub row-reduced : (b : ℕ) {e from to : ℕ} → InChain c e from to → rowAt c b (engine e) .0 ≡ from + (e - from + b % (to + 1 - from)) % (to + 1 - from)

@@ -18,9 +18,11 @@ use Rattle.laws.proofs.Cases.{by-cases}
 use Rattle.laws.proofs.Sum.{sum-ext, sum-const, sum-blocks, count-once}
 use Rattle.paper.specs.declared.Duty.{Duty}
 use Rattle.paper.specs.declared.Held.the-variants.{By}
-use Rattle.paper.specs.Words.{row, engine, jobStart, slice, Table, dutyAt, runAt, heldIn, same}
+use Rattle.paper.specs.Duties.{engine, jobStart, dutyAt, same}
+use Rattle.paper.specs.Words.{row, slice, Table, runAt, heldIn}
 use Rattle.paper.specs.Rotation.{link, rowAt}
-use Rattle.paper.specs.Schedule.{walk, given, served}
+use Rattle.paper.specs.Walk.{walk}
+use Rattle.paper.specs.Schedule.{given, served}
 use Rattle.paper.specs.Bytes.{Width}
 use Rattle.paper.specs.Rules.{unitsOf}
 use Rattle.paper.specs.Statements.{Ranged, Meets}

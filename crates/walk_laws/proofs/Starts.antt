@@ -18,8 +18,9 @@ use Rattle.laws.proofs.Cases.{by-cases, lt-or-le, refuted, and-left, and-right}
 use Rattle.laws.proofs.Sum.{sum-ext, sum-first, sum-plus, sum-const, sum-swap, sum-zero, sum-only, count-cell}
 use Rattle.paper.specs.declared.Run.{Run}
 use Rattle.paper.specs.declared.Held.the-variants.{By}
-use Rattle.paper.specs.Words.{row, stop, Table, runAt, heldIn, same, busy}
-use Rattle.paper.specs.Schedule.{loads}
+use Rattle.paper.specs.Duties.{same, busy}
+use Rattle.paper.specs.Words.{row, stop, Table, runAt, heldIn}
+use Rattle.paper.specs.Walk.{loads}
 use Rattle.paper.specs.Bytes.{Width}
 use Rattle.paper.specs.Statements.{Ranged, Meets, Has}
 use Rattle.table_laws.proofs.Rules.{NotJoined}

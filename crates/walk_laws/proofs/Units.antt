@@ -19,7 +19,8 @@ use Rattle.paper.specs.declared.Row.{Row}
 use Rattle.paper.specs.declared.Run.{Run}
 use Rattle.paper.specs.declared.Held.{Held}
 use Rattle.paper.specs.declared.Held.the-variants.{Idle, By}
-use Rattle.paper.specs.Words.{row, stop, covers, runAt, heldIn, same}
+use Rattle.paper.specs.Duties.{same}
+use Rattle.paper.specs.Words.{row, stop, covers, runAt, heldIn}
 use Rattle.paper.specs.Rules.{unitsOf}
 use Rattle.paper.specs.Statements.{Apart}
 use Rattle.paper.proofs.Holding.{RowsApart, Covering, covers-row, covers-has, held-yes, held-no, held-idle, held-some}

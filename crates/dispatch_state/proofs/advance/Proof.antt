@@ -19,8 +19,8 @@ returns-2 c =
     let args = c .before .before .before .args in
     sym (step-last _ (args .engines) (args .block) (args .rows) (c .before .before .is-own .ensures) (search needs) (search needs))
 
-add-t8 : tie.Need-add-t8
-add-t8 c = search needs
+add-next : tie.Need-add-next
+add-next c = search needs
 
 returns-3 : tie.Need-returns-3
 returns-3 c =
@@ -28,4 +28,4 @@ returns-3 c =
     sym (step-is _ (args .engines) (args .block) (args .rows) (c .before .before .is-own .ensures) (search needs) (search needs))
 
 pub advance-spec : {M : Type 1} → statement M
-advance-spec = tie.close (tie.spec is-own-requires returns returns-2 add-t8 returns-3)
+advance-spec = tie.close (tie.spec is-own-requires returns returns-2 add-next returns-3)

@@ -6,7 +6,7 @@ use native.Mathlib.Omega.{arith}
 use borrow.Author.Needs.{needs}
 use Rattle.laws.proofs.Lists.{Filled, filled-none, filled-more}
 use Rattle.paper.specs.declared.Row.{Row}
-use Rattle.paper.specs.Words.{engine}
+use Rattle.paper.specs.Duties.{engine}
 use Rattle.paper.specs.Rotation.{rowAt}
 use Rattle.row_edges.specs.Links.{linkOf}
 use Rattle.dispatch_state.proofs.Filling.{rows-filled}

@@ -2,14 +2,14 @@
 -- Assumes nothing.
 use mathlib.Core.Path.{sym}
 use borrow.Author.Needs.{needs}
-use Rattle.dispatch_state.proofs.Deciding.{row-none, row-foreign, row-is}
+use Rattle.dispatch_state.proofs.Deciding.{row-absent, row-foreign, row-told}
 use Rattle.dispatch_state.proofs.tell.Statement.{statement}
 use Rattle.dispatch_state.proofs.tell.Tie as tie
 
 returns : tie.Need-returns
 returns c =
     let args = c .before .before .args in
-    sym (row-none _ (args .engines) (args .block) (args .rows) (args .engine) (search needs))
+    sym (row-absent _ (args .engines) (args .block) (args .rows) (args .engine) (search needs))
 
 is-own-requires : tie.Need-is-own-requires
 is-own-requires c κs = search needs
@@ -25,7 +25,7 @@ row-in-requires c κs = search needs
 returns-3 : tie.Need-returns-3
 returns-3 c =
     let args = c .before .before .before .before .before .args in
-    rw (c .row-in .ensures) (sym (row-is _ (args .engines) (args .block) (args .rows) (c .before .before .is-own .ensures) (args .engine) (search needs) (search needs)))
+    rw (c .row-in .ensures) (sym (row-told _ (args .engines) (args .block) (args .rows) (c .before .before .is-own .ensures) (args .engine) (search needs) (search needs)))
 
 pub tell-spec : {M : Type 1} → statement M
 tell-spec = tie.close (tie.spec returns is-own-requires returns-2 row-in-requires returns-3)

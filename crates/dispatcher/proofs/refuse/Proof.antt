@@ -7,7 +7,7 @@ use Rattle.dispatcher.proofs.refuse.Tie as tie
 
 returns : tie.Need-returns
 unfolding tab
-returns c = refl
+returns c = record { said = refl; holds = refl }
 
 pub refuse-spec : {M : Type 1} → statement M
 refuse-spec = tie.close (tie.spec returns)

@@ -3,19 +3,18 @@
 use Prim.Native.Nat.{_-_}
 use mathlib.Core.Path.{sym, ap, _∙_}
 use mathlib.Core.Bool.{not}
-use native.Mathlib.Omega.{arith}
 use borrow.Author.Needs.{needs}
 use lib.ListN.{length}
 use Rattle.laws.proofs.Search.{Seeking, seek-none, seek-more, seek-hit, seek-miss}
-use Rattle.paper.specs.Words.{dutyAt}
+use Rattle.paper.specs.Duties.{dutyAt}
 use Rattle.paper.specs.Bytes.{dutyRanged}
-use Rattle.paper.specs.Builder.{dutiesOf, badRange}
+use Rattle.paper.specs.Wanted.{dutiesOf, badRange}
 use Rattle.plan_laws.proofs.Planned.{length-duties}
 use Rattle.duty_lists.proofs.bad_range.Statement.{statement}
 use Rattle.duty_lists.proofs.bad_range.Tie as tie
 
 abbrev Inv-loop : tie.InvT-loop
-Inv-loop services periods i₀ i = Seeking (λ d. not (dutyRanged (dutyAt (dutiesOf services periods) d))) (length (dutiesOf services periods)) i
+Inv-loop services periods i₀ i = Seeking (λ d. not (dutyRanged (dutyAt (dutiesOf services periods) d))) (length services) i
 
 abbrev μ-loop : tie.MeasureT-loop
 μ-loop services periods i₀ i = length services - i
@@ -26,15 +25,15 @@ loop-holds c = seek-none _ _
 duty-at-requires : tie.Need-duty-at-requires Inv-loop μ-loop
 duty-at-requires c κs = search needs
 
-in-range-requires : tie.Need-in-range-requires Inv-loop μ-loop
-in-range-requires c κs = search needs
+duty-in-range-requires : tie.Need-duty-in-range-requires Inv-loop μ-loop
+duty-in-range-requires c κs = search needs
 
 returns : tie.Need-returns Inv-loop μ-loop
 unfolding badRange
 returns c =
     let args = c .before .before .before .before .before .before .before .args in
-    seek-hit (c .before .before .before .before .loop .inv) (omega (arith, length-duties (args .services .now) (args .periods .now)))
-    (sym (ap not (c .before .in-range .ensures ∙ ap dutyRanged (c .before .before .duty-at .ensures))) ∙ c .if1 .taken)
+    rw (length-duties (args .services .now) (args .periods .now)) (seek-hit (c .before .before .before .before .loop .inv) (search needs)
+    (sym (ap not (c .before .duty-in-range .ensures ∙ ap dutyRanged (c .before .before .duty-at .ensures))) ∙ c .if1 .taken))
 
 add-i : tie.Need-add-i Inv-loop μ-loop
 add-i c = search needs
@@ -44,15 +43,14 @@ loop-less c = search needs
 
 loop-again : tie.Need-loop-again Inv-loop μ-loop
 loop-again c =
-    let args = c .before .before .before .before .before .before .before .args in
-    seek-more (c .before .before .before .before .loop .inv) (omega (arith, length-duties (args .services .now) (args .periods .now)))
-    (sym (ap not (c .before .in-range .ensures ∙ ap dutyRanged (c .before .before .duty-at .ensures))) ∙ c .if1 .left)
+    seek-more (c .before .before .before .before .loop .inv) (search needs)
+    (sym (ap not (c .before .duty-in-range .ensures ∙ ap dutyRanged (c .before .before .duty-at .ensures))) ∙ c .if1 .left)
 
 returns-2 : tie.Need-returns-2 Inv-loop μ-loop
 unfolding badRange
 returns-2 c =
     let args = c .before .before .before .before .args in
-    seek-miss (c .before .loop .inv) (omega (arith, length-duties (args .services .now) (args .periods .now)))
+    rw (length-duties (args .services .now) (args .periods .now)) (seek-miss (c .before .loop .inv) (search needs))
 
 pub bad-range-spec : {M : Type 1} → statement M
 bad-range-spec =
@@ -62,7 +60,7 @@ bad-range-spec =
     μ-loop
     loop-holds
     duty-at-requires
-    in-range-requires
+    duty-in-range-requires
     returns
     add-i
     loop-less

@@ -7,14 +7,16 @@ use native.Mathlib.Omega.{arith}
 use borrow.Author.Needs.{needs}
 use lib.ListN.{length}
 use Rattle.laws.proofs.Search.{Seeking, seek-none, seek-more, seek-hit, seek-miss}
-use Rattle.paper.specs.Words.{dutyAt, whole}
-use Rattle.paper.specs.Builder.{dutiesOf, badSlice}
+use Rattle.paper.specs.Duties.{dutyAt}
+use Rattle.paper.specs.Words.{whole}
+use Rattle.paper.specs.Wanted.{dutiesOf}
+use Rattle.paper.specs.Builder.{badSlice}
 use Rattle.plan_laws.proofs.Planned.{length-duties}
 use Rattle.duty_lists.proofs.bad_slice.Statement.{statement}
 use Rattle.duty_lists.proofs.bad_slice.Tie as tie
 
 abbrev Inv-loop : tie.InvT-loop
-Inv-loop t services periods i₀ i = Seeking (λ d. not (whole t (dutyAt (dutiesOf services periods) d))) (length (dutiesOf services periods)) i
+Inv-loop t services periods i₀ i = Seeking (λ d. not (whole t (dutyAt (dutiesOf services periods) d))) (length services) i
 
 abbrev μ-loop : tie.MeasureT-loop
 μ-loop t services periods i₀ i = length services - i
@@ -32,8 +34,8 @@ returns : tie.Need-returns Inv-loop μ-loop
 unfolding badSlice
 returns c =
     let args = c .before .before .before .before .before .before .before .args in
-    seek-hit (c .before .before .before .before .loop .inv) (omega (arith, length-duties (args .services .now) (args .periods .now)))
-    (sym (ap not (c .before .is-whole .ensures ∙ ap (whole _) (c .before .before .duty-at .ensures))) ∙ c .if1 .taken)
+    rw (length-duties (args .services .now) (args .periods .now)) (seek-hit (c .before .before .before .before .loop .inv) (search needs)
+    (sym (ap not (c .before .is-whole .ensures ∙ ap (whole _) (c .before .before .duty-at .ensures))) ∙ c .if1 .taken))
 
 add-i : tie.Need-add-i Inv-loop μ-loop
 add-i c = search needs
@@ -43,15 +45,14 @@ loop-less c = search needs
 
 loop-again : tie.Need-loop-again Inv-loop μ-loop
 loop-again c =
-    let args = c .before .before .before .before .before .before .before .args in
-    seek-more (c .before .before .before .before .loop .inv) (omega (arith, length-duties (args .services .now) (args .periods .now)))
+    seek-more (c .before .before .before .before .loop .inv) (search needs)
     (sym (ap not (c .before .is-whole .ensures ∙ ap (whole _) (c .before .before .duty-at .ensures))) ∙ c .if1 .left)
 
 returns-2 : tie.Need-returns-2 Inv-loop μ-loop
 unfolding badSlice
 returns-2 c =
     let args = c .before .before .before .before .args in
-    seek-miss (c .before .loop .inv) (omega (arith, length-duties (args .services .now) (args .periods .now)))
+    rw (length-duties (args .services .now) (args .periods .now)) (seek-miss (c .before .loop .inv) (search needs))
 
 pub bad-slice-spec : {M : Type 1} → statement M
 bad-slice-spec =

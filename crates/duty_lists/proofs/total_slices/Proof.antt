@@ -8,7 +8,7 @@ use lib.ListN.{length, drop}
 use Rattle.laws.specs.Lists.{sumOf}
 use Rattle.paper.specs.Sa1.{slices}
 use Rattle.paper.specs.Bytes.{mostTicks}
-use Rattle.paper.specs.Builder.{dutiesOf}
+use Rattle.paper.specs.Wanted.{dutiesOf}
 use Rattle.plan_laws.proofs.Planned.{length-duties}
 use Rattle.duty_lists.proofs.Duties.{total-left, total-none}
 use Rattle.duty_lists.proofs.total_slices.Statement.{statement}
@@ -40,13 +40,9 @@ loop-less c = search needs
 loop-again : tie.Need-loop-again Inv-loop μ-loop
 loop-again c =
     let args = c .before .before .before .before .before .args in
-    let t = args .t in
-    let ss = args .services .now in
-    let ps = args .periods .now in
-    let ds = dutiesOf ss ps in
-    let i = c .before .before .loop .i in
-    let h : i < length ds = omega (arith, length-duties ss ps) in
-    (search needs, search needs, omega (arith, total-left t ds i h))
+    let ds = dutiesOf (args .services .now) (args .periods .now) in
+    let h : c .before .before .loop .i < length ds = omega (arith, length-duties (args .services .now) (args .periods .now)) in
+    (search needs, search needs, omega (arith, total-left (args .t) ds _ h))
 
 returns : tie.Need-returns Inv-loop μ-loop
 returns c =

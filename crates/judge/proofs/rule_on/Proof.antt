@@ -2,8 +2,8 @@
 -- Assumes nothing.
 use mathlib.Core.Path.{sym, ap, _∙_}
 use borrow.Author.Needs.{needs}
-use Rattle.table_form.specs.Told.{formAs}
-use Rattle.table_form.proofs.Formed.{formed}
+use Rattle.table_form.specs.FormAs.{formAs}
+use Rattle.table_form.proofs.GoodForm.{formed}
 use Rattle.judge.proofs.Accepted.{form-refused}
 use Rattle.judge.proofs.OneForm.{no-form}
 use Rattle.judge.proofs.rule_on.Statement.{statement}

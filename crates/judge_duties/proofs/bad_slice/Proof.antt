@@ -5,7 +5,8 @@ use Prim.Native.Nat.{_-_}
 use mathlib.Core.Bool.{not}
 use borrow.Author.Needs.{needs}
 use Rattle.laws.proofs.Search.{Seeking, seek-none, seek-more, seek-hit, seek-miss}
-use Rattle.paper.specs.Words.{whole, dutyAt}
+use Rattle.paper.specs.Duties.{dutyAt}
+use Rattle.paper.specs.Words.{whole}
 use Rattle.paper.specs.Builder.{badSlice}
 use Rattle.record_read.specs.Formed.{tableOf}
 use Rattle.judge_duties.proofs.bad_slice.Statement.{statement}

@@ -6,7 +6,8 @@ use mathlib.Core.Bool.{not}
 use borrow.Author.Needs.{needs}
 use lib.Dec.{eqb}
 use Rattle.laws.proofs.Search.{Seeking, seek-none, seek-more, seek-hit, seek-miss}
-use Rattle.paper.specs.Words.{slice, dutyAt}
+use Rattle.paper.specs.Duties.{dutyAt}
+use Rattle.paper.specs.Words.{slice}
 use Rattle.paper.specs.Rules.{unitsOf, badSum}
 use Rattle.record_read.specs.Formed.{tableOf}
 use Rattle.record_read.proofs.Table.{table-duties}

@@ -36,7 +36,9 @@ is-number-requires-2 : tie.Need-is-number-requires-2
 is-number-requires-2 c κs = search needs
 
 returns-2 : tie.Need-returns-2
-returns-2 c = rw (c .before .before .is-number .ensures, c .is-number2 .ensures) (sym (duty-good (c .before .before .before .before .before .before .before .args .c .now) (c .before .before .before .before .before .find .result) (c .before .before .before .before .before .find .ensures .0)))
+returns-2 c =
+    let space = c .before .before .before .before .before .find in
+    rw (c .before .before .is-number .ensures, c .is-number2 .ensures) (sym (duty-good (c .before .before .before .before .before .before .before .args .c .now) (space .result) (space .ensures .0)))
 
 pub duty-line-good-spec : {M : Type 1} → statement M
 duty-line-good-spec =

@@ -3,47 +3,53 @@
 use mathlib.Core.Path.{sym}
 use borrow.Author.Needs.{needs}
 use lib.Seq.{length-take-le}
-use Rattle.line_read.proofs.DutyLines.{duty-parts, duty-is}
+use Rattle.line_read.proofs.DutyLines.{Parts, duty-parts, duty-is}
 use Rattle.line_read.proofs.duty_read.Statement.{statement}
 use Rattle.line_read.proofs.duty_read.Tie as tie
+
+-- the parts of the line, by the space that was found
+parts : (c : tie.After-find) → Parts (c .before .before .args .c .now) (c .find .result)
+parts c = duty-parts (c .before .before .args .c .now) (c .find .result) (c .find .ensures .0) (c .before .before .pre)
 
 find-requires : tie.Need-find-requires
 find-requires c κs = search needs
 
-slice-aggregate-number-of : tie.Need-slice-aggregate-number-of
-slice-aggregate-number-of c = sym (length-take-le (c .before .find .result) (c .before .before .before .args .c .now) (search needs))
+slice-aggregate-value-of : tie.Need-slice-aggregate-value-of
+slice-aggregate-value-of c = sym (length-take-le (c .before .find .result) (c .before .before .before .args .c .now) (search needs))
 
-number-of-requires : tie.Need-number-of-requires
-number-of-requires c κs = duty-parts (c .before .before .before .args .c .now) (c .before .find .result) (c .before .find .ensures .0) (c .before .before .before .pre) .1
+value-of-requires : tie.Need-value-of-requires
+value-of-requires c κs = parts (c .before) .1
 
-add-number-of : tie.Need-add-number-of
-add-number-of c = search needs
+add-value-of : tie.Need-add-value-of
+add-value-of c = search needs
 
-sub-number-of : tie.Need-sub-number-of
-sub-number-of c = duty-parts (c .before .before .before .before .args .c .now) (c .before .before .find .result) (c .before .before .find .ensures .0) (c .before .before .before .before .pre) .0
+sub-value-of : tie.Need-sub-value-of
+sub-value-of c = parts (c .before .before) .0
 
-part-number-of-start : tie.Need-part-number-of-start
-part-number-of-start c = sub-number-of c
+part-value-of-start : tie.Need-part-value-of-start
+part-value-of-start c = sub-value-of c
 
-part-number-of-end : tie.Need-part-number-of-end
-part-number-of-end c = search needs
+part-value-of-end : tie.Need-part-value-of-end
+part-value-of-end c = search needs
 
-number-of-requires-2 : tie.Need-number-of-requires-2
-number-of-requires-2 c κs = duty-parts (c .before .before .before .before .before .args .c .now) (c .before .before .before .find .result) (c .before .before .before .find .ensures .0) (c .before .before .before .before .before .pre) .2
+value-of-requires-2 : tie.Need-value-of-requires-2
+value-of-requires-2 c κs = parts (c .before .before .before) .2
 
 returns : tie.Need-returns
-returns c = rw (c .before .before .number-of .ensures, c .number-of2 .ensures) (sym (duty-is (c .before .before .before .before .before .before .args .c .now) (c .before .before .before .before .find .result) (c .before .before .before .before .find .ensures .0)))
+returns c =
+    let space = c .before .before .before .before .find in
+    rw (c .before .before .value-of .ensures, c .value-of2 .ensures) (sym (duty-is (c .before .before .before .before .before .before .args .c .now) (space .result) (space .ensures .0)))
 
 pub duty-read-spec : {M : Type 1} → statement M
 duty-read-spec =
     tie.close
     (tie.spec
     find-requires
-    slice-aggregate-number-of
-    number-of-requires
-    add-number-of
-    sub-number-of
-    part-number-of-start
-    part-number-of-end
-    number-of-requires-2
+    slice-aggregate-value-of
+    value-of-requires
+    add-value-of
+    sub-value-of
+    part-value-of-start
+    part-value-of-end
+    value-of-requires-2
     returns)

@@ -9,9 +9,9 @@ use Rattle.line_read.proofs.engines_read.Tie as tie
 is-dash-requires : tie.Need-is-dash-requires
 is-dash-requires c κs = search needs
 
-number-of-requires : tie.Need-number-of-requires
+value-of-requires : tie.Need-value-of-requires
 unfolding engineLineGood
-number-of-requires c κs = rw (sym (c .before .is-dash .ensures) ∙ c .if1 .left) at (c .before .before .before .pre)
+value-of-requires c κs = rw (sym (c .before .is-dash .ensures) ∙ c .if1 .left) at (c .before .before .before .pre)
 
 returns : tie.Need-returns
 unfolding enginesRead
@@ -19,7 +19,7 @@ returns c = rw (sym (c .before .is-dash .ensures) ∙ c .if1 .taken)
 
 returns-2 : tie.Need-returns-2
 unfolding enginesRead
-returns-2 c = c .number-of .ensures ∙ rw (sym (c .before .before .is-dash .ensures) ∙ c .before .if1 .left)
+returns-2 c = c .value-of .ensures ∙ rw (sym (c .before .before .is-dash .ensures) ∙ c .before .if1 .left)
 
 pub engines-read-spec : {M : Type 1} → statement M
-engines-read-spec = tie.close (tie.spec is-dash-requires number-of-requires returns returns-2)
+engines-read-spec = tie.close (tie.spec is-dash-requires value-of-requires returns returns-2)

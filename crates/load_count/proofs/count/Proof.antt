@@ -26,11 +26,8 @@ count-in-requires c κs =
 enum-known-judged-2 : tie.Need-enum-known-judged-2
 enum-known-judged-2 c = search needs
 
-number-of-requires : tie.Need-number-of-requires
-number-of-requires c κs = search needs
-
-place-of-requires : tie.Need-place-of-requires
-place-of-requires c κs = search needs
+refusal-of-requires : tie.Need-refusal-of-requires
+refusal-of-requires c κs = search needs
 
 returns : tie.Need-returns
 unfolding counted
@@ -43,7 +40,7 @@ returns c =
 
 returns-2 : tie.Need-returns-2
 unfolding counted
-returns-2 c = asked-refused (c .before .before .before .before .before .before .before .before .before .args .b .now) _ (c .before .before .before .before .before .before .before .rule-on .ensures .told) (c .before .before .before .judged2 .given .1) (c .before .number-of .ensures) (c .place-of .ensures)
+returns-2 c = asked-refused (c .before .before .before .before .before .before .before .before .args .b .now) _ (c .before .before .before .before .before .before .rule-on .ensures .told) (c .before .before .judged2 .given .1) (c .refusal-of .ensures)
 
 pub count-spec : {M : Type 1} → statement M
 count-spec =
@@ -53,7 +50,6 @@ count-spec =
     enum-known-judged
     count-in-requires
     enum-known-judged-2
-    number-of-requires
-    place-of-requires
+    refusal-of-requires
     returns
     returns-2)

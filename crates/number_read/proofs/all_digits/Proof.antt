@@ -27,7 +27,10 @@ is-digit-requires : tie.Need-is-digit-requires Inv-loop μ-loop
 is-digit-requires c κs = search needs
 
 returns : tie.Need-returns Inv-loop μ-loop
-returns c = sym (digits-step (c .before .before .before .before .before .before .args .c .now) (c .before .before .before .before .loop .i) false (search needs) (sym (c .before .is-digit .ensures) ∙ not-true _ (c .if1 .taken))) ∙ c .before .before .before .before .loop .inv .1
+returns c =
+    let loop = c .before .before .before .before .loop in
+    let other = sym (c .before .is-digit .ensures) ∙ not-true _ (c .if1 .taken) in
+    sym (digits-step (c .before .before .before .before .before .before .args .c .now) (loop .i) false (search needs) other) ∙ loop .inv .1
 
 add-i : tie.Need-add-i Inv-loop μ-loop
 add-i c = search needs
@@ -36,7 +39,10 @@ loop-less : tie.Need-loop-less Inv-loop μ-loop
 loop-less c = search needs
 
 loop-again : tie.Need-loop-again Inv-loop μ-loop
-loop-again c = (search needs, sym (digits-step (c .before .before .before .before .before .before .args .c .now) (c .before .before .before .before .loop .i) true (search needs) (sym (c .before .is-digit .ensures) ∙ not-false _ (c .if1 .left))) ∙ c .before .before .before .before .loop .inv .1)
+loop-again c =
+    let loop = c .before .before .before .before .loop in
+    let digit = sym (c .before .is-digit .ensures) ∙ not-false _ (c .if1 .left) in
+    (search needs, sym (digits-step (c .before .before .before .before .before .before .args .c .now) (loop .i) true (search needs) digit) ∙ loop .inv .1)
 
 returns-2 : tie.Need-returns-2 Inv-loop μ-loop
 returns-2 c = sym (digits-end (c .before .before .before .args .c .now) (c .before .loop .i) (search needs)) ∙ c .before .loop .inv .1

@@ -1,7 +1,7 @@
 -- `run_plan`: what was read decides what is printed.
 -- Assumes nothing.
-use Rattle.plan.proofs.Building.{puts-as}
-use Rattle.plan.proofs.Told.{taken-sized, fault-printed, read-printed}
+use Rattle.plan.proofs.Printed.{puts-as, program-is}
+use Rattle.plan_input.proofs.NothingLost.{read-room}
 use borrow.Author.Needs.{needs}
 use Rattle.plan.proofs.run_plan.Statement.{statement}
 use Rattle.plan.proofs.run_plan.Tie as tie
@@ -12,24 +12,24 @@ read-input-requires c κs = search needs
 enum-told : tie.Need-enum-told
 enum-told c = search needs
 
-put-planned-requires : tie.Need-put-planned-requires
-put-planned-requires c κs = (search needs, taken-sized _ _ (c .before .before .before .read-input .ensures))
+print-planned-requires : tie.Need-print-planned-requires
+print-planned-requires c κs = (search needs, read-room _ (c .before .before .before .read-input .ensures))
 
 enum-known-verdict : tie.Need-enum-known-verdict
 enum-known-verdict c = search needs
 
-put-text-fault-requires : tie.Need-put-text-fault-requires
-put-text-fault-requires c κs = search needs
+print-refused-requires : tie.Need-print-refused-requires
+print-refused-requires c κs = search needs
 
 returns : tie.Need-returns
 returns c =
-    let read = c .before .before .before .before .read-input in
-    puts-as (c .before .before .before .before .before .before .args .out .now) (read-printed _ (read .result) (read .ensures) (c .before .before .enum-told .given .1)) (c .put-planned .ensures)
+    let same = program-is _ (c .before .before .before .before .read-input .ensures) (c .before .before .enum-told .given .1) in
+    puts-as (c .before .before .before .before .before .before .args .out .now) same (c .print-planned .ensures)
 
 returns-2 : tie.Need-returns-2
 returns-2 c =
-    let read = c .before .before .before .before .before .read-input in
-    puts-as (c .before .before .before .before .before .before .before .args .out .now) (fault-printed _ (read .result) _ (read .ensures) (c .before .before .before .verdict .given .1)) (c .put-text-fault .ensures)
+    let same = program-is _ (c .before .before .before .before .before .read-input .ensures) (c .before .before .before .verdict .given .1) in
+    puts-as (c .before .before .before .before .before .before .before .args .out .now) same (c .print-refused .ensures)
 
 pub run-plan-spec : {M : Type 1} → statement M
 run-plan-spec =
@@ -37,8 +37,8 @@ run-plan-spec =
     (tie.spec
     read-input-requires
     enum-told
-    put-planned-requires
+    print-planned-requires
     enum-known-verdict
-    put-text-fault-requires
+    print-refused-requires
     returns
     returns-2)

@@ -1,7 +1,8 @@
 -- `read_duties`: the duties read so far and the lines that are left make up the whole; a line that fails its tests is the
 -- faulty one.
 -- Assumes nothing.
-use mathlib.Core.Path.{sym, _∙_}
+use mathlib.Core.Path.{_≡_, sym, _∙_}
+use mathlib.Core.Bool.{true}
 use mathlib.Core.List.{List}
 use Prim.Native.Nat.{ℕ, _-_, _≤_}
 use borrow.Author.Needs.{needs}
@@ -10,13 +11,14 @@ use lib.Seq.{length-take-le}
 use borrow.Author.Tests.{not-true, not-false}
 use Rattle.laws.specs.Lists.{tab}
 use Rattle.laws.proofs.Writing.{lent-rest}
+use Rattle.line_read.specs.Line.{lineGood}
 use Rattle.plan_input.proofs.Lines.{good-parts}
-use Rattle.plan_input.proofs.Reading.{Reading, start, more, ahead, broken, finished}
+use Rattle.plan_input.proofs.LinesRead.{LinesRead, none-read, one-more, ahead, broken, finished}
 use Rattle.plan_input.proofs.read_duties.Statement.{statement}
 use Rattle.plan_input.proofs.read_duties.Tie as tie
 
 abbrev Inv-loop : tie.InvT-loop
-Inv-loop b engines services₀ periods₀ i₀ at₀ services periods i at = (i ≤ 64) × (at ≤ length b) × Reading b services periods i at
+Inv-loop b engines services₀ periods₀ i₀ at₀ services periods i at = (i ≤ 64) × (at ≤ length b) × LinesRead b services periods i at
 
 abbrev μ-loop : tie.MeasureT-loop
 μ-loop b engines services₀ periods₀ i₀ at₀ services periods i at = length b - at
@@ -25,9 +27,16 @@ abbrev μ-loop : tie.MeasureT-loop
 abbrev rest : List ℕ → ℕ → List ℕ
 rest b at = take (length b - at) (drop at b)
 
+abbrev lent : tie.After-find Inv-loop μ-loop → List ℕ
+lent c = rest (c .before .before .before .before .before .args .b .now) (c .before .before .before .loop .at)
+
+-- a line that passed its test is good
+good : (c : tie.Else1 Inv-loop μ-loop) → lineGood (c .before .before .before .before .before .loop .i) (lent (c .before .before)) (c .before .before .find .result) ≡ true
+good c = sym (c .before .line-good .ensures) ∙ not-false _ (c .if1 .left)
+
 loop-holds : tie.Need-loop-holds Inv-loop μ-loop
 unfolding tab
-loop-holds c = (search needs, search needs, start (c .before .args .b .now))
+loop-holds c = (search needs, search needs, none-read (c .before .args .b .now))
 
 sub-rest : tie.Need-sub-rest Inv-loop μ-loop
 sub-rest c = search needs
@@ -53,23 +62,25 @@ faulty-requires c κs = search needs
 returns : tie.Need-returns Inv-loop μ-loop
 returns c =
     let args = c .before .before .before .before .before .before .before .before .args in
+    let b = args .b .now in
     let l = c .before .before .before .before .before .before .loop in
     let found = c .before .before .before .find in
     let bad = sym (c .before .before .line-good .ensures) ∙ not-true _ (c .before .if1 .taken) in
     c .faulty .ensures
-    ∙ broken (args .b .now) (l .services) (l .periods) (args .engines) (l .i) (l .at) (rest (args .b .now) (l .at)) (found .result) (l .inv .2) (lent-rest (l .at) (args .b .now)) (found .ensures .0) (search needs) bad
+    ∙ broken b (l .services) (l .periods) (args .engines) (l .i) (l .at) (rest b (l .at)) (found .result) (l .inv .2) (lent-rest (l .at) b)
+    (found .ensures .0) (search needs) bad
 
 slice-aggregate-duty-read : tie.Need-slice-aggregate-duty-read Inv-loop μ-loop
-slice-aggregate-duty-read c = sym (length-take-le (c .before .before .before .find .result) (rest (c .before .before .before .before .before .before .before .before .args .b .now) (c .before .before .before .before .before .before .loop .at)) (search needs))
+slice-aggregate-duty-read c = sym (length-take-le (c .before .before .before .find .result) (lent (c .before .before .before)) (search needs))
 
 duty-read-requires : tie.Need-duty-read-requires Inv-loop μ-loop
-duty-read-requires c κs = good-parts _ _ _ (sym (c .before .before .line-good .ensures) ∙ not-false _ (c .before .if1 .left)) .2
+duty-read-requires c κs = good-parts _ _ _ (good (c .before)) .2
 
 mul-services : tie.Need-mul-services Inv-loop μ-loop
 mul-services c = search needs
 
 array-write-services : tie.Need-array-write-services Inv-loop μ-loop
-array-write-services c = good-parts _ _ _ (sym (c .before .before .before .line-good .ensures) ∙ not-false _ (c .before .before .if1 .left)) .1
+array-write-services c = good-parts _ _ _ (good (c .before .before)) .1
 
 mul-periods : tie.Need-mul-periods Inv-loop μ-loop
 mul-periods c = search needs
@@ -87,18 +98,21 @@ add-at-2 : tie.Need-add-at-2 Inv-loop μ-loop
 add-at-2 c = search needs
 
 loop-less : tie.Need-loop-less Inv-loop μ-loop
-loop-less c = ahead (c .before .before .before .before .before .before .before .before .before .args .b .now) (c .before .before .before .before .before .before .before .loop .i) (c .before .before .before .before .before .before .before .loop .at) (c .before .before .before .before .find .result) (search needs) (sym (c .before .before .before .line-good .ensures) ∙ not-false _ (c .before .before .if1 .left)) .2
+loop-less c =
+    let b = c .before .before .before .before .before .before .before .before .before .args .b .now in
+    let l = c .before .before .before .before .before .before .before .loop in
+    ahead b (l .i) (l .at) (c .before .before .before .before .find .result) (search needs) (good (c .before .before)) .2
 
 loop-again : tie.Need-loop-again Inv-loop μ-loop
 loop-again c =
     let b = c .before .before .before .before .before .before .before .before .before .args .b .now in
     let l = c .before .before .before .before .before .before .before .loop in
     let found = c .before .before .before .before .find in
-    let good = sym (c .before .before .before .line-good .ensures) ∙ not-false _ (c .before .before .if1 .left) in
-    let next = ahead b (l .i) (l .at) (found .result) (search needs) good in (
+    let next = ahead b (l .i) (l .at) (found .result) (search needs) (good (c .before .before)) in (
       next .0,
       next .1,
-      more b (l .services) (l .periods) (l .i) (l .at) (rest b (l .at)) (found .result) (c .duty-read .result) (l .inv .2) (lent-rest (l .at) b) (found .ensures .0) good (c .duty-read .ensures),
+      one-more b (l .services) (l .periods) (l .i) (l .at) (rest b (l .at)) (found .result) (c .duty-read .result) (l .inv .2) (lent-rest (l .at) b)
+          (found .ensures .0) (good (c .before .before)) (c .duty-read .ensures),
     )
 
 cast-duties : tie.Need-cast-duties Inv-loop μ-loop

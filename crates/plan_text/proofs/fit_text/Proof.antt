@@ -1,41 +1,46 @@
 -- `fit_text`: the text is made apart; of a buffer with room for it, it then covers the front.
 -- Assumes nothing.
 use mathlib.Core.Path.{sym, ap, _∙_}
+use Prim.Native.Nat.{ℕ}
+use mathlib.Core.List.{List}
 use native.Mathlib.Omega.{arith}
 use lib.ListN.{length}
 use Rattle.laws.specs.Lists.{over}
-use Rattle.paper.specs.Outcome.{answer}
 use Rattle.paper.specs.Text.{planText}
+use Rattle.paper.proofs.Outcomes.{writes-refused, writes-length}
 use Rattle.record_read.specs.Formed.{tableOf}
 use Rattle.plan_text.proofs.Fitting.{fitted-short, fitted-room, front-is}
 use borrow.Author.Needs.{needs}
 use Rattle.plan_text.proofs.fit_text.Statement.{statement}
 use Rattle.plan_text.proofs.fit_text.Tie as tie
 
-slice-aggregate-put-text : tie.Need-slice-aggregate-put-text
-slice-aggregate-put-text c = search needs
+-- what is to be printed
+abbrev text : tie.Start → List ℕ
+text s = planText (tableOf (s .args .b .now) (s .args .rd))
 
-put-text-requires : tie.Need-put-text-requires
-put-text-requires c κs = search needs
+slice-aggregate-print-text : tie.Need-slice-aggregate-print-text
+slice-aggregate-print-text c = search needs
+
+print-text-requires : tie.Need-print-text-requires
+print-text-requires c κs = search needs
 
 returns : tie.Need-returns
 returns c =
     let start = c .before .before .before .before .before .before in
-    let text = planText (tableOf (start .args .b .now) (start .args .rd)) in
-    let e = fitted-short (length (start .args .out .now)) (c .before .before .put-text .result) text (c .before .before .put-text .ensures .0 .0) (search needs) in
-    (rw e, rw e)
+    let put = c .before .before .print-text in
+    writes-refused _ (start .args .out .now) (fitted-short _ (put .result) (text start) (put .ensures .0 .0) (search needs))
 
 array-share-prefix-text : tie.Need-array-share-prefix-text
 array-share-prefix-text c = search needs
 
 slice-aggregate-put-bytes : tie.Need-slice-aggregate-put-bytes
 slice-aggregate-put-bytes c =
-    let put = c .before .before .before .before .put-text in
+    let put = c .before .before .before .before .print-text in
     put .ensures .0 .0 ∙ ap length (sym (front-is _ _ _ _ (put .ensures .0 .0) (put .ensures .0 .1)))
 
 put-bytes-requires : tie.Need-put-bytes-requires
 put-bytes-requires c κs =
-    let put = c .before .before .before .before .put-text in
+    let put = c .before .before .before .before .print-text in
     rw (front-is _ _ _ _ (put .ensures .0 .0) (put .ensures .0 .1)) (omega (arith, put .ensures .0 .0))
 
 same-length : tie.Need-same-length
@@ -45,17 +50,16 @@ returns-2 : tie.Need-returns-2
 returns-2 c =
     let start = c .before .before .before .before .before .before .before .before .before .before .before in
     let l = start .args .out .now in
-    let text = planText (tableOf (start .args .b .now) (start .args .rd)) in
-    let put = c .before .before .before .before .before .before .before .put-text in
-    let e = fitted-room (length l) (put .result) text (put .ensures .0 .0) (search needs) in
-    (rw e (ap answer (put .ensures .0 .0)), rw e (c .before .before .put-bytes .ensures ∙ ap (λ w. over w l) (front-is _ text _ _ (put .ensures .0 .0) (put .ensures .0 .1))))
+    let put = c .before .before .before .before .before .before .before .print-text in
+    writes-length (text start) l _ (fitted-room (length l) (put .result) (text start) (put .ensures .0 .0) (search needs)) (sym (put .ensures .0 .0))
+    (c .before .before .put-bytes .ensures ∙ ap (λ w. over w l) (front-is _ (text start) _ _ (put .ensures .0 .0) (put .ensures .0 .1)))
 
 pub fit-text-spec : {M : Type 1} → statement M
 fit-text-spec =
     tie.close
     (tie.spec
-    slice-aggregate-put-text
-    put-text-requires
+    slice-aggregate-print-text
+    print-text-requires
     returns
     array-share-prefix-text
     slice-aggregate-put-bytes

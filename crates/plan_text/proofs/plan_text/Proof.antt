@@ -1,14 +1,15 @@
 -- `plan_text`: the judge decides, then the room.
 -- Assumes nothing.
-use mathlib.Core.Path.{ap}
+use mathlib.Core.Path.{sym}
 use mathlib.Core.List.{List}
 use Prim.Native.Nat.{ℕ}
 use lib.ListN.{length}
 use borrow.Author.Needs.{needs}
 use Rattle.paper.specs.Words.{Table}
-use Rattle.paper.specs.Outcome.{Outcome, lengthOf, leaves}
+use Rattle.paper.specs.Outcome.{Outcome}
 use Rattle.paper.specs.Builder.{fitted}
 use Rattle.paper.specs.Text.{planText, textFor}
+use Rattle.paper.proofs.Outcomes.{writes-same, writes-refused}
 use Rattle.judge.proofs.Asked.{ready, asked-accepted, asked-refused}
 use Rattle.plan_text.proofs.plan_text.Statement.{statement}
 use Rattle.plan_text.proofs.plan_text.Tie as tie
@@ -33,11 +34,8 @@ fit-text-requires c κs =
 enum-known-judged-2 : tie.Need-enum-known-judged-2
 enum-known-judged-2 c = search needs
 
-number-of-requires : tie.Need-number-of-requires
-number-of-requires c κs = search needs
-
-place-of-requires : tie.Need-place-of-requires
-place-of-requires c κs = search needs
+refusal-of-requires : tie.Need-refusal-of-requires
+refusal-of-requires c κs = search needs
 
 same-length : tie.Need-same-length
 same-length c = search needs
@@ -45,18 +43,19 @@ same-length c = search needs
 returns : tie.Need-returns
 unfolding textFor
 returns c =
-    let start = c .before .before .before .before .before .before .before .before .before .before .before .before .before .before in
-    let fit = c .before .before .fit-text in
-    let e = asked-accepted (start .args .table .now) (asked (length (start .args .out .now))) (c .before .before .before .before .before .before .before .before .before .before .before .rule-on .ensures .told) (c .before .before .before .before .before .before .before .judged .given .1) in
-    (rw (← e) (fit .ensures .0), rw (← e) (fit .ensures .1))
+    let args = c .before .before .before .before .before .before .before .before .before .before .before .before .before .before .args in
+    let ruled = c .before .before .before .before .before .before .before .before .before .before .before .rule-on .ensures in
+    let same = asked-accepted (args .table .now) (asked (length (args .out .now))) (ruled .told) (c .before .before .before .before .before .before .before .judged .given .1) in
+    writes-same (sym same) (c .before .before .fit-text .ensures)
 
 returns-2 : tie.Need-returns-2
 unfolding textFor
 returns-2 c =
-    let start = c .before .before .before .before .before .before .before .before .before .before in
-    let l = start .args .out .now in
-    let e = asked-refused (start .args .table .now) (asked (length l)) (c .before .before .before .before .before .before .before .rule-on .ensures .told) (c .before .before .before .judged2 .given .1) (c .before .number-of .ensures) (c .place-of .ensures) in
-    (ap lengthOf e, ap (λ o. leaves o l) e)
+    let args = c .before .before .before .before .before .before .before .before .before .args in
+    let l = args .out .now in
+    let ruled = c .before .before .before .before .before .before .rule-on .ensures in
+    let same = asked-refused (args .table .now) (asked (length l)) (ruled .told) (c .before .before .judged2 .given .1) (c .refusal-of .ensures) in
+    writes-refused (c .refusal-of .result) l (sym same)
 
 pub plan-text-spec : {M : Type 1} → statement M
 plan-text-spec =
@@ -66,8 +65,7 @@ plan-text-spec =
     enum-known-judged
     fit-text-requires
     enum-known-judged-2
-    number-of-requires
-    place-of-requires
+    refusal-of-requires
     same-length
     returns
     returns-2)

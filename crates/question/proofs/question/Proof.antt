@@ -3,7 +3,6 @@
 use mathlib.Core.Path.{_∙_}
 use borrow.Author.Needs.{needs}
 use Rattle.paper.specs.Answers.{question}
-use Rattle.question.specs.Told.{replyOf}
 use Rattle.judge.proofs.Accepted.{accepted-as}
 use Rattle.judge.proofs.Asked.{asked-accepted, asked-refused}
 use Rattle.question.proofs.question.Statement.{statement}
@@ -23,23 +22,20 @@ reply-requires c κs =
 enum-known-judged-2 : tie.Need-enum-known-judged-2
 enum-known-judged-2 c = search needs
 
-number-of-requires : tie.Need-number-of-requires
-number-of-requires c κs = search needs
-
-place-of-requires : tie.Need-place-of-requires
-place-of-requires c κs = search needs
+refusal-of-requires : tie.Need-refusal-of-requires
+refusal-of-requires c κs = search needs
 
 returns : tie.Need-returns
 unfolding question
 returns c =
     let start = c .before .before .before .before .before .before .before .before .before .before in
-    c .reply .ensures ∙ asked-accepted (start .args .b .now) (λ t. replyOf t (start .args .engine) (start .args .tick)) (c .before .before .before .before .before .before .before .before .rule-on .ensures .told) (c .before .before .before .before .judged .given .1)
+    c .reply .ensures ∙ asked-accepted (start .args .b .now) _ (c .before .before .before .before .before .before .before .before .rule-on .ensures .told) (c .before .before .before .before .judged .given .1)
 
 returns-2 : tie.Need-returns-2
 unfolding question
 returns-2 c =
-    let start = c .before .before .before .before .before .before .before .before .before in
-    asked-refused (start .args .b .now) (λ t. replyOf t (start .args .engine) (start .args .tick)) (c .before .before .before .before .before .before .before .rule-on .ensures .told) (c .before .before .before .judged2 .given .1) (c .before .number-of .ensures) (c .place-of .ensures)
+    let start = c .before .before .before .before .before .before .before .before in
+    asked-refused (start .args .b .now) _ (c .before .before .before .before .before .before .rule-on .ensures .told) (c .before .before .judged2 .given .1) (c .refusal-of .ensures)
 
 pub question-spec : {M : Type 1} → statement M
 question-spec =
@@ -49,7 +45,6 @@ question-spec =
     enum-known-judged
     reply-requires
     enum-known-judged-2
-    number-of-requires
-    place-of-requires
+    refusal-of-requires
     returns
     returns-2)

@@ -1,6 +1,6 @@
 -- `reply`: the row of the tick's block, and what holds the tick's unit on it.
 -- Assumes nothing.
-use mathlib.Core.Path.{sym, _∙_}
+use mathlib.Core.Path.{sym}
 use native.Mathlib.Nat.{mod-lt}
 use native.Mathlib.Omega.{arith}
 use borrow.Author.Needs.{needs}
@@ -31,21 +31,10 @@ cast-held c =
 held-requires : tie.Need-held-requires
 held-requires c κs = search needs
 
-enum-known-duty : tie.Need-enum-known-duty
-enum-known-duty c = search needs
-
-enum-told : tie.Need-enum-told
-enum-told c = search needs
-
 returns-2 : tie.Need-returns-2
 returns-2 c =
-    let start = c .before .before .before .before .before .before .before .before .before .before in
-    reply-is (start .args .engine) (start .args .tick) (start .pre .0) (start .pre .1 .0) (start .pre .1 .1) (search needs) (c .before .before .before .before .row-in .ensures) (sym (c .before .duty .given .1) ∙ c .before .before .before .held .ensures)
-
-returns-3 : tie.Need-returns-3
-returns-3 c =
-    let start = c .before .before .before .before .before .before .before .before .before in
-    reply-is (start .args .engine) (start .args .tick) (start .pre .0) (start .pre .1 .0) (start .pre .1 .1) (search needs) (c .before .before .before .row-in .ensures) (sym (c .enum-told .given .1) ∙ c .before .before .held .ensures)
+    let start = c .before .before .before .before .before .before .before in
+    reply-is (start .args .engine) (start .args .tick) (start .pre .0) (start .pre .1 .0) (start .pre .1 .1) (search needs) (c .before .row-in .ensures) (c .held .ensures)
 
 pub reply-spec : {M : Type 1} → statement M
 reply-spec =
@@ -58,7 +47,4 @@ reply-spec =
     rem-held
     cast-held
     held-requires
-    enum-known-duty
-    enum-told
-    returns-2
-    returns-3)
+    returns-2)

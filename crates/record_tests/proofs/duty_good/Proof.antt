@@ -25,20 +25,16 @@ long c = standing _ _ 2 9 (sym (c .before .record-stands .ensures) ∙ not-false
 read-duty-requires : tie.Need-read-duty-requires
 read-duty-requires c κs = omega (arith, long c)
 
-is-within-requires : tie.Need-is-within-requires
-is-within-requires c κs = search needs
-
-is-within-requires-2 : tie.Need-is-within-requires-2
-is-within-requires-2 c κs = search needs
+duty-in-range-requires : tie.Need-duty-in-range-requires
+duty-in-range-requires c κs = search needs
 
 returns-2 : tie.Need-returns-2
 unfolding dutyGood
 returns-2 c =
     rw (
-      c .is-within2 .ensures,
-      c .before .is-within .ensures,
-      c .before .before .read-duty .ensures,
-      sym (c .before .before .before .before .record-stands .ensures) ∙ not-false _ (c .before .before .before .if1 .left),
+      c .duty-in-range .ensures,
+      c .before .read-duty .ensures,
+      sym (c .before .before .before .record-stands .ensures) ∙ not-false _ (c .before .before .if1 .left),
     )
 
 pub duty-good-spec : {M : Type 1} → statement M
@@ -48,6 +44,5 @@ duty-good-spec =
     record-stands-requires
     returns
     read-duty-requires
-    is-within-requires
-    is-within-requires-2
+    duty-in-range-requires
     returns-2)

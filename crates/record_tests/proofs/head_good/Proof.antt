@@ -31,22 +31,28 @@ read-one-requires c κs = omega (arith, long (c .before))
 read-one-requires-2 : tie.Need-read-one-requires-2
 read-one-requires-2 c κs = omega (arith, long (c .before .before))
 
+period-in-range-requires : tie.Need-period-in-range-requires
+period-in-range-requires c κs = search needs
+
+cast-is-within : tie.Need-cast-is-within
+cast-is-within c = search needs
+
 is-within-requires : tie.Need-is-within-requires
 is-within-requires c κs = search needs
 
+cast-is-within-2 : tie.Need-cast-is-within-2
+cast-is-within-2 c = search needs
+
 is-within-requires-2 : tie.Need-is-within-requires-2
 is-within-requires-2 c κs = search needs
-
-is-within-requires-3 : tie.Need-is-within-requires-3
-is-within-requires-3 c κs = search needs
 
 returns-2 : tie.Need-returns-2
 unfolding headGood
 returns-2 c =
     rw (
-      c .is-within3 .ensures,
-      c .before .is-within2 .ensures,
-      c .before .before .is-within .ensures,
+      c .is-within2 .ensures,
+      c .before .is-within .ensures,
+      c .before .before .period-in-range .ensures,
       c .before .before .before .before .before .read-four .ensures,
       c .before .before .before .before .read-one .ensures .0,
       c .before .before .before .read-one2 .ensures .0,
@@ -62,7 +68,9 @@ head-good-spec =
     read-four-requires
     read-one-requires
     read-one-requires-2
+    period-in-range-requires
+    cast-is-within
     is-within-requires
+    cast-is-within-2
     is-within-requires-2
-    is-within-requires-3
     returns-2)

@@ -7,7 +7,7 @@ use borrow.Author.Needs.{needs}
 use mathlib.Core.List.{[], _∷_}
 use lib.ListN.{length, drop, getD, length-set, drop-of-length-le}
 use lib.Seq.{drop-cons}
-use Rattle.laws.proofs.Writing.{Wrote, start, stored, done, next}
+use Rattle.laws.proofs.Writing.{Wrote, unwritten, stored, done, next}
 use Rattle.record_write.proofs.put_bytes.Statement.{statement}
 use Rattle.record_write.proofs.put_bytes.Tie as tie
 
@@ -18,7 +18,7 @@ abbrev μ-loop : tie.MeasureT-loop
 μ-loop out₀ bytes i₀ out i = length bytes - i
 
 loop-holds : tie.Need-loop-holds Inv-loop μ-loop
-loop-holds c = (search needs, refl, start _ _)
+loop-holds c = (search needs, refl, unwritten _ _)
 
 shared-slice-read-out : tie.Need-shared-slice-read-out Inv-loop μ-loop
 shared-slice-read-out c = search needs

@@ -7,7 +7,7 @@ use native.Mathlib.Omega.{arith}
 use borrow.Author.Needs.{needs}
 use lib.ListN.{length, length-set}
 use Rattle.laws.specs.Digits.{digits}
-use Rattle.laws.proofs.Writing.{Wrote, start, stored, done, next}
+use Rattle.laws.proofs.Writing.{Wrote, unwritten, stored, done, next}
 use Rattle.record_write.proofs.put_field.Statement.{statement}
 use Rattle.record_write.proofs.put_field.Tie as tie
 
@@ -34,7 +34,7 @@ abbrev μ-loop : tie.MeasureT-loop
 μ-loop out₀ width v left₀ i₀ out left i = width - i
 
 loop-holds : tie.Need-loop-holds Inv-loop μ-loop
-loop-holds c = (search needs, refl, next (field-all _ _) (start _ _))
+loop-holds c = (search needs, refl, next (field-all _ _) (unwritten _ _))
 
 cast-out : tie.Need-cast-out Inv-loop μ-loop
 cast-out c = search needs

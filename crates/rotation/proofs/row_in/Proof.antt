@@ -4,7 +4,8 @@ use Prim.Native.Nat.{ℕ}
 use mathlib.Core.Path.{_≡_, sym, ap, _∙_}
 use mathlib.Core.Bool.{Bool}
 use borrow.Author.Needs.{needs}
-use Rattle.paper.specs.Words.{row, engine}
+use Rattle.paper.specs.Duties.{engine}
+use Rattle.paper.specs.Words.{row}
 use Rattle.paper.specs.Rotation.{firstOf, rowAt}
 use Rattle.walk_laws.proofs.Chains.{in-chain, row-reduced}
 use Rattle.rotation.specs.Chains.{IsLast, round}

@@ -6,7 +6,7 @@ use native.Mathlib.Omega.{arith}
 use borrow.Author.Needs.{needs}
 use lib.ListN.{length, drop}
 use Rattle.paper.specs.Sa1.{slices}
-use Rattle.paper.specs.Builder.{dutiesOf}
+use Rattle.paper.specs.Wanted.{dutiesOf}
 use Rattle.sa1_runs.specs.Laying.{laidFrom, corner}
 use Rattle.plan_laws.proofs.Planned.{length-duties}
 use Rattle.sa1_runs.proofs.Laying.{count-left, count-none}

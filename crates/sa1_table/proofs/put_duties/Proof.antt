@@ -1,17 +1,14 @@
 -- `put_duties`: after i turns all of the bytes but those of the duties from i on are laid over the buffer, 9 for each duty.
 -- Assumes nothing.
-use Prim.Native.Nat.{ℕ, _+_, _*_, _-_, _≤_, _<_}
-use mathlib.Core.Path.{_≡_, refl, ap, _∙_}
+use Prim.Native.Nat.{_*_, _-_, _≤_, _<_}
+use mathlib.Core.Path.{_≡_, refl, sym, ap, _∙_}
 use native.Mathlib.Nat.{le-refl}
 use native.Mathlib.Omega.{arith}
-use lib.ListN.{length, take, drop}
-use Rattle.laws.specs.Lists.{flat, over}
-use Rattle.paper.specs.declared.Duty.{Duty}
-use Rattle.laws.proofs.Lists.{flat-left, flat-none}
-use Rattle.laws.proofs.Writing.{Wrote, start, more, next, moved, done}
-use Rattle.paper.specs.Words.{duty, dutyAt}
+use lib.ListN.{length}
+use Rattle.laws.proofs.Listing.{Listing, listing-start, listing-more, listing-end}
+use Rattle.paper.specs.Duties.{duty}
 use Rattle.paper.specs.Bytes.{dutyBytes}
-use Rattle.paper.specs.Builder.{dutiesOf}
+use Rattle.paper.specs.Wanted.{dutiesOf}
 use Rattle.plan_laws.proofs.Planned.{length-duties}
 use Rattle.table_laws.proofs.Bytes.{length-duty}
 use Rattle.sa1_table.proofs.put_duties.Statement.{statement}
@@ -19,14 +16,13 @@ use Rattle.sa1_table.proofs.put_duties.Tie as tie
 
 abbrev Inv-loop : tie.InvT-loop
 Inv-loop out₀ services periods at₀ i₀ out at i =
-    (i ≤ length services) × (at ≡ 9 * i) × (length out ≡ length out₀)
-    × Wrote (flat dutyBytes (dutiesOf services periods)) out₀ (flat dutyBytes (drop i (dutiesOf services periods))) out at
+    (i ≤ length services) × (at ≡ 9 * i) × Listing dutyBytes (dutiesOf services periods) out₀ out at i
 
 abbrev μ-loop : tie.MeasureT-loop
 μ-loop out₀ services periods at₀ i₀ out at i = length services - i
 
 loop-holds : tie.Need-loop-holds Inv-loop μ-loop
-loop-holds c = (omega arith, refl, refl, start _ _)
+loop-holds c = (omega arith, refl, listing-start _ _ _)
 
 sub-put-duty : tie.Need-sub-put-duty Inv-loop μ-loop
 sub-put-duty c = omega arith
@@ -58,29 +54,22 @@ loop-again c =
     let loop = c .before .before .before .before .before .before .loop in
     let ss = args .services .now in
     let ps = args .periods .now in
-    let ds = dutiesOf ss ps in
-    let i = loop .i in
-    let h : i < length ds = rw (length-duties ss ps) (c .before .before .before .before .before .loop-test .taken) in
-    let here = flat-left dutyBytes (duty 0 0) ds i h in (
+    let h : loop .i < length (dutiesOf ss ps) = rw (length-duties ss ps) (c .before .before .before .before .before .loop-test .taken) in
+    let read = c .before .before .before .duty-at in (
       omega arith,
       omega arith,
-      c .before .out .given .1 ∙ loop .inv .2,
-      moved (ap (λ (n : ℕ). loop .at + n) (length-duty (dutyAt ds i)))
-          (more _ _ (flat dutyBytes (drop (i + 1) ds)) (loop .out) (dutyBytes (dutyAt ds i)) _ (loop .at) (next here (loop .inv .3))
-          (c .before .before .put-duty .ensures ∙ ap (λ (x : Duty). over (dutyBytes x) (take (length (loop .out) - loop .at) (drop (loop .at) (loop .out)))) (c .before .before .before .duty-at .ensures))),
+      listing-more (duty 0 0) (dutyBytes (read .result)) _ 9 (ap dutyBytes (read .ensures)) (loop .inv .2) h (sym (length-duty (read .result)))
+          (c .before .before .put-duty .ensures) (c .before .out .given .1 ∙ loop .inv .2 .long),
     )
 
 same-length : tie.Need-same-length Inv-loop μ-loop
-same-length c = c .before .loop .inv .2
+same-length c = c .before .loop .inv .2 .long
 
 returns : tie.Need-returns Inv-loop μ-loop
 returns c =
     let args = c .before .before .before .before .before .args in
     let loop = c .before .loop in
-    let ss = args .services .now in
-    let ps = args .periods .now in
-    let none = flat-none dutyBytes (dutiesOf ss ps) (loop .i) (omega (arith, length-duties ss ps)) in
-    done _ _ (loop .out) (loop .at) (next none (loop .inv .3))
+    listing-end (loop .inv .2) (omega (arith, length-duties (args .services .now) (args .periods .now))) .1
 
 pub put-duties-spec : {M : Type 1} → statement M
 put-duties-spec =

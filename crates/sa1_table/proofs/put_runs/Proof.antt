@@ -6,9 +6,9 @@ use mathlib.Core.List.{List}
 use native.Mathlib.Nat.{le-refl}
 use native.Mathlib.Omega.{arith}
 use lib.ListN.{length, drop}
-use Rattle.laws.proofs.Writing.{Wrote, start, more, next, moved, done, length-lent}
+use Rattle.laws.proofs.Writing.{Wrote, unwritten, more, next, moved, done, length-lent}
 use Rattle.paper.specs.Sa1.{slices}
-use Rattle.paper.specs.Builder.{dutiesOf}
+use Rattle.paper.specs.Wanted.{dutiesOf}
 use Rattle.sa1_runs.specs.Laying.{laidAt, laidFrom, corner}
 use Rattle.plan_laws.proofs.Planned.{length-duties}
 use Rattle.sa1_runs.proofs.Laying.{count-left}
@@ -38,7 +38,7 @@ abbrev μ-loop : tie.MeasureT-loop
 μ-loop out₀ t services periods at₀ place₀ i₀ out at place i = length services - i
 
 loop-holds : tie.Need-loop-holds Inv-loop μ-loop
-loop-holds c = (omega arith, refl, omega arith, omega arith, omega arith, start _ _)
+loop-holds c = (omega arith, refl, omega arith, omega arith, omega arith, unwritten _ _)
 
 slice-at-requires : tie.Need-slice-at-requires Inv-loop μ-loop
 slice-at-requires c κs = (c .before .before .before .before .before .pre .0, omega arith)

@@ -3,34 +3,33 @@
 use mathlib.Core.Path.{sym, ap, _∙_}
 use borrow.Author.Needs.{needs}
 use mathlib.Core.List.{[], _∷_}
-use Rattle.paper.specs.Answers.{counted}
+use Rattle.paper.specs.Answers.{counted, countAs}
 use Rattle.plan_laws.proofs.Listed.{counted-listed}
-use Rattle.load_count.specs.Told.{countAs}
-use Rattle.tickplume.specs.Face.{countCall, entries}
+use Rattle.paper.specs.Face.{countCall, entries}
 use Rattle.tickplume.proofs.Telling.{tell-short, tell-refused, tell-answer}
 use Rattle.face_entries.proofs.Stored.{stored-one}
 use Rattle.tickplume.proofs.tickplume_count.Statement.{statement}
 use Rattle.tickplume.proofs.tickplume_count.Tie as tie
 
-refusal-requires : tie.Need-refusal-requires
-refusal-requires c κs = search needs
+too-short-requires : tie.Need-too-short-requires
+too-short-requires c κs = search needs
 
 returns : tie.Need-returns
 unfolding countCall
 returns c =
     let args = c .before .before .before .before .args in
-    tell-short (entries (λ x. x ∷ []) (counted (args .table .now) (args .blocks))) 1 _ (args .answer .now) (args .answer .now) (search needs) (c .refusal .ensures)
+    tell-short (entries (λ x. x ∷ []) (counted (args .table .now) (args .blocks))) 1 _ (args .answer .now) (args .answer .now) (search needs) (c .too-short .ensures)
 
 count-requires : tie.Need-count-requires
 count-requires c κs = search needs
 
-enum-known-number : tie.Need-enum-known-number
-enum-known-number c = search needs
+enum-known-why : tie.Need-enum-known-why
+enum-known-why c = search needs
 
-refusal-requires-2 : tie.Need-refusal-requires-2
-refusal-requires-2 c κs =
+word-of-requires : tie.Need-word-of-requires
+word-of-requires c κs =
     let args = c .before .before .before .before .before .before .before .args in
-    let z = counted-listed (args .table .now) (args .blocks) _ _ (sym (c .before .before .before .count .ensures) ∙ ap countAs (c .before .number .given .1)) in
+    let z = counted-listed (args .table .now) (args .blocks) _ _ (sym (c .before .before .before .count .ensures) ∙ ap countAs (c .before .why .given .1)) in
     (z .byte, z .place)
 
 enum-known-loads : tie.Need-enum-known-loads
@@ -44,7 +43,7 @@ unfolding countCall
 returns-2 c =
     let args = c .before .before .before .before .before .before .before .before .args in
     tell-refused (λ x. x ∷ []) (counted (args .table .now) (args .blocks)) 1 _ _ _ (args .answer .now) (search needs)
-    (sym (c .before .before .before .before .count .ensures) ∙ ap countAs (c .before .before .number .given .1)) (c .refusal2 .ensures)
+    (sym (c .before .before .before .before .count .ensures) ∙ ap countAs (c .before .before .why .given .1)) (c .word-of .ensures)
 
 same-length : tie.Need-same-length
 same-length c = search needs
@@ -60,11 +59,11 @@ pub tickplume-count-spec : {M : Type 1} → statement M
 tickplume-count-spec =
     tie.close
     (tie.spec
-    refusal-requires
+    too-short-requires
     returns
     count-requires
-    enum-known-number
-    refusal-requires-2
+    enum-known-why
+    word-of-requires
     enum-known-loads
     slice-write-answer
     returns-2

@@ -6,18 +6,17 @@ use borrow.Author.Needs.{needs}
 use Rattle.paper.specs.Outcome.{judgedAs}
 use Rattle.paper.specs.Rules.{judged}
 use Rattle.plan_laws.proofs.Listed.{judged-listed}
-use Rattle.face_entries.specs.Entries.{readingEntries}
-use Rattle.tickplume.specs.Face.{judgeCall, entries}
+use Rattle.paper.specs.Face.{readingEntries, judgeCall, entries}
 use Rattle.tickplume.proofs.Telling.{tell-short, tell-refused, tell-answer}
 use Rattle.tickplume.proofs.tickplume_judge.Statement.{statement}
 use Rattle.tickplume.proofs.tickplume_judge.Tie as tie
 
-refusal-requires : tie.Need-refusal-requires
-refusal-requires c κs = search needs
+too-short-requires : tie.Need-too-short-requires
+too-short-requires c κs = search needs
 
 returns : tie.Need-returns
 unfolding judgeCall
-returns c = tell-short (entries readingEntries (judged (c .before .before .before .before .args .table .now))) 4 _ (c .before .before .before .before .args .answer .now) (c .before .before .before .before .args .answer .now) (search needs) (c .refusal .ensures)
+returns c = tell-short (entries readingEntries (judged (c .before .before .before .before .args .table .now))) 4 _ (c .before .before .before .before .args .answer .now) (c .before .before .before .before .args .answer .now) (search needs) (c .too-short .ensures)
 
 judge-requires : tie.Need-judge-requires
 judge-requires c κs = search needs
@@ -25,16 +24,13 @@ judge-requires c κs = search needs
 enum-known-fault : tie.Need-enum-known-fault
 enum-known-fault c = search needs
 
-number-of-requires : tie.Need-number-of-requires
-number-of-requires c κs = search needs
+refusal-of-requires : tie.Need-refusal-of-requires
+refusal-of-requires c κs = search needs
 
-place-of-requires : tie.Need-place-of-requires
-place-of-requires c κs = search needs
-
-refusal-requires-2 : tie.Need-refusal-requires-2
-refusal-requires-2 c κs =
-    let z = judged-listed (c .before .before .before .before .before .before .before .before .before .args .table .now) _ _ (sym (c .before .before .before .before .before .judge .ensures) ∙ ap judgedAs (c .before .before .before .fault .given .1)) in
-    omega (arith, z .byte, z .place, c .before .number-of .ensures, c .place-of .ensures)
+word-of-requires : tie.Need-word-of-requires
+word-of-requires c κs =
+    let z = judged-listed (c .before .before .before .before .before .before .before .before .args .table .now) _ _ (sym (c .before .before .before .before .judge .ensures) ∙ ap judgedAs (c .before .before .fault .given .1)) in
+    omega (arith, z .byte, z .place, c .refusal-of .ensures)
 
 enum-known-rd : tie.Need-enum-known-rd
 enum-known-rd c = search needs
@@ -45,9 +41,10 @@ put-reading-requires c κs = search needs
 returns-2 : tie.Need-returns-2
 unfolding judgeCall
 returns-2 c =
-    let told = sym (c .before .before .before .before .before .before .judge .ensures) ∙ ap judgedAs (c .before .before .before .before .fault .given .1) in
-    tell-refused readingEntries (judged (c .before .before .before .before .before .before .before .before .before .before .args .table .now)) 4 _ _ _ (c .before .before .before .before .before .before .before .before .before .before .args .answer .now) (search needs) told
-    (omega (arith, c .refusal2 .ensures, c .before .before .number-of .ensures, c .before .place-of .ensures))
+    let args = c .before .before .before .before .before .before .before .before .before .args in
+    let told = sym (c .before .before .before .before .before .judge .ensures) ∙ ap judgedAs (c .before .before .before .fault .given .1) in
+    tell-refused readingEntries (judged (args .table .now)) 4 _ _ _ (args .answer .now) (search needs) told
+    (omega (arith, c .word-of .ensures, c .before .refusal-of .ensures))
 
 same-length : tie.Need-same-length
 same-length c = search needs
@@ -63,13 +60,12 @@ pub tickplume-judge-spec : {M : Type 1} → statement M
 tickplume-judge-spec =
     tie.close
     (tie.spec
-    refusal-requires
+    too-short-requires
     returns
     judge-requires
     enum-known-fault
-    number-of-requires
-    place-of-requires
-    refusal-requires-2
+    refusal-of-requires
+    word-of-requires
     enum-known-rd
     put-reading-requires
     returns-2

@@ -4,30 +4,28 @@ use mathlib.Core.Path.{sym, ap, _∙_}
 use borrow.Author.Needs.{needs}
 use mathlib.Core.List.{[], _∷_}
 use Rattle.paper.specs.declared.Row.{Row}
-use Rattle.paper.specs.Words.{engine}
-use Rattle.paper.specs.Answers.{rowTold}
+use Rattle.paper.specs.Duties.{engine}
+use Rattle.paper.specs.Answers.{rowTold, rowAs}
 use Rattle.plan_laws.proofs.Listed.{row-listed}
-use Rattle.dispatch_state.specs.ByState.{rowAs}
-use Rattle.tickplume.specs.Face.{rowCall, entries, needing}
-use Rattle.face_entries.specs.StateEntries.{stateIn}
+use Rattle.paper.specs.Face.{rowCall, entries, needing, stateIn}
 use Rattle.tickplume.proofs.Telling.{tell-short, tell-refused, tell-answer, tell-next}
 use Rattle.face_entries.proofs.Stored.{stored-one}
 use Rattle.tickplume.proofs.Cut.{row-asked}
 use Rattle.tickplume.proofs.tickplume_row.Statement.{statement}
 use Rattle.tickplume.proofs.tickplume_row.Tie as tie
 
-refusal-requires : tie.Need-refusal-requires
-refusal-requires c κs = search needs
+too-short-requires : tie.Need-too-short-requires
+too-short-requires c κs = search needs
 
 returns : tie.Need-returns
 unfolding rowCall
 returns c =
     let args = c .before .before .before .before .before .args in
     let o = rowTold (args .table .now) (stateIn (args .state .now)) (engine (args .engine)) in
-    tell-short (needing 1 (args .answer .now) (entries (λ (r : Row). r .0 ∷ []) o)) 33 _ (args .state .now) (args .answer .now) (search needs) (c .refusal .ensures)
+    tell-short (needing 1 (args .answer .now) (entries (λ (r : Row). r .0 ∷ []) o)) 33 _ (args .state .now) (args .answer .now) (search needs) (c .too-short .ensures)
 
-refusal-requires-2 : tie.Need-refusal-requires-2
-refusal-requires-2 c κs = search needs
+too-short-requires-2 : tie.Need-too-short-requires-2
+too-short-requires-2 c κs = search needs
 
 returns-2 : tie.Need-returns-2
 unfolding rowCall
@@ -35,26 +33,26 @@ returns-2 c =
     let args = c .before .before .before .before .before .before .args in
     let o = rowTold (args .table .now) (stateIn (args .state .now)) (engine (args .engine)) in
     tell-next 33 _ (args .state .now) (args .answer .now) (args .answer .now) (search needs)
-    (tell-short (entries (λ (r : Row). r .0 ∷ []) o) 1 _ (args .answer .now) (args .answer .now) (search needs) (c .refusal2 .ensures))
+    (tell-short (entries (λ (r : Row). r .0 ∷ []) o) 1 _ (args .answer .now) (args .answer .now) (search needs) (c .too-short2 .ensures))
 
 rows-in-requires : tie.Need-rows-in-requires
 rows-in-requires c κs = search needs
 
-shared-slice-read-t13 : tie.Need-shared-slice-read-t13
-shared-slice-read-t13 c = search needs
+shared-slice-read-block : tie.Need-shared-slice-read-block
+shared-slice-read-block c = search needs
 
 row-requires : tie.Need-row-requires
 row-requires c κs = search needs
 
-enum-known-number : tie.Need-enum-known-number
-enum-known-number c = search needs
+enum-known-why : tie.Need-enum-known-why
+enum-known-why c = search needs
 
-refusal-requires-3 : tie.Need-refusal-requires-3
-refusal-requires-3 c κs =
+word-of-requires : tie.Need-word-of-requires
+word-of-requires c κs =
     let taken = c .before .before .before .before .before .rows-in in
     let args = c .before .before .before .before .before .before .before .before .before .before .before .args in
     let told = row-asked (args .table .now) (args .state .now) (engine (args .engine)) (taken .result) (taken .ensures) (c .before .before .before .row .ensures) in
-    let z = row-listed (args .table .now) (stateIn (args .state .now)) (engine (args .engine)) _ _ (sym told ∙ ap rowAs (c .before .number .given .1)) in
+    let z = row-listed (args .table .now) (stateIn (args .state .now)) (engine (args .engine)) _ _ (sym told ∙ ap rowAs (c .before .why .given .1)) in
     (z .byte, z .place)
 
 enum-known-row : tie.Need-enum-known-row
@@ -74,7 +72,7 @@ returns-3 c =
     let told = row-asked (args .table .now) (args .state .now) (engine (args .engine)) (taken .result) (taken .ensures) (c .before .before .before .before .row .ensures) in
     let o = rowTold (args .table .now) (stateIn (args .state .now)) (engine (args .engine)) in
     tell-next 33 _ (args .state .now) (args .answer .now) (args .answer .now) (search needs)
-    (tell-refused (λ (r : Row). r .0 ∷ []) o 1 _ _ _ (args .answer .now) (search needs) (sym told ∙ ap rowAs (c .before .before .number .given .1)) (c .refusal3 .ensures))
+    (tell-refused (λ (r : Row). r .0 ∷ []) o 1 _ _ _ (args .answer .now) (search needs) (sym told ∙ ap rowAs (c .before .before .why .given .1)) (c .word-of .ensures))
 
 same-length : tie.Need-same-length
 same-length c = search needs
@@ -93,15 +91,15 @@ pub tickplume-row-spec : {M : Type 1} → statement M
 tickplume-row-spec =
     tie.close
     (tie.spec
-    refusal-requires
+    too-short-requires
     returns
-    refusal-requires-2
+    too-short-requires-2
     returns-2
     rows-in-requires
-    shared-slice-read-t13
+    shared-slice-read-block
     row-requires
-    enum-known-number
-    refusal-requires-3
+    enum-known-why
+    word-of-requires
     enum-known-row
     cast-answer
     slice-write-answer

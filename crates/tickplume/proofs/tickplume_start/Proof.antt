@@ -3,21 +3,20 @@
 use borrow.Author.Needs.{needs}
 use Rattle.paper.specs.Answers.{start}
 use Rattle.plan_laws.proofs.Listed.{start-listed}
-use Rattle.tickplume.specs.Face.{startCall, entries}
-use Rattle.face_entries.specs.StateEntries.{stateEntries}
+use Rattle.paper.specs.Face.{startCall, entries, stateEntries}
 use Rattle.tickplume.proofs.Telling.{tell-short, tell-refused, tell-answer}
-use Rattle.tickplume.proofs.Handing.{handed-refused, handed-done}
+use Rattle.tickplume.proofs.Handing.{hands-refused, hands-done}
 use Rattle.tickplume.proofs.tickplume_start.Statement.{statement}
 use Rattle.tickplume.proofs.tickplume_start.Tie as tie
 
-refusal-requires : tie.Need-refusal-requires
-refusal-requires c κs = search needs
+too-short-requires : tie.Need-too-short-requires
+too-short-requires c κs = search needs
 
 returns : tie.Need-returns
 unfolding startCall
 returns c =
     let args = c .before .before .before .before .args in
-    tell-short (entries stateEntries (start (args .table .now) (args .block))) 33 _ (args .state .now) (args .state .now) (search needs) (c .refusal .ensures)
+    tell-short (entries stateEntries (start (args .table .now) (args .block))) 33 _ (args .state .now) (args .state .now) (search needs) (c .too-short .ensures)
 
 start-requires : tie.Need-start-requires
 start-requires c κs = search needs
@@ -25,12 +24,12 @@ start-requires c κs = search needs
 enum-known-verdict : tie.Need-enum-known-verdict
 enum-known-verdict c = search needs
 
-refusal-requires-2 : tie.Need-refusal-requires-2
-refusal-requires-2 c κs =
+word-of-requires : tie.Need-word-of-requires
+word-of-requires c κs =
     let args = c .before .before .before .before .before .before .before .args in
     let o = start (args .table .now) (args .block) in
     let done = c .before .before .before .start in
-    let z = start-listed (args .table .now) (args .block) _ _ (handed-refused (done .result) o _ _ (done .ensures) (c .before .verdict .given .1)) in
+    let z = start-listed (args .table .now) (args .block) _ _ (hands-refused (done .ensures) (c .before .verdict .given .1)) in
     (z .byte, z .place)
 
 enum-told : tie.Need-enum-told
@@ -45,7 +44,7 @@ returns-2 c =
     let args = c .before .before .before .before .before .before .before .before .args in
     let o = start (args .table .now) (args .block) in
     let done = c .before .before .before .before .start in
-    tell-refused stateEntries o 33 _ _ _ (args .state .now) (search needs) (handed-refused (done .result) o _ _ (done .ensures) (c .before .before .verdict .given .1)) (c .refusal2 .ensures)
+    tell-refused stateEntries o 33 _ _ _ (args .state .now) (search needs) (hands-refused (done .ensures) (c .before .before .verdict .given .1)) (c .word-of .ensures)
 
 same-length : tie.Need-same-length
 same-length c = search needs
@@ -56,17 +55,17 @@ returns-3 c =
     let args = c .before .before .before .before .before .before .before .before .before .before .before .before .args in
     let o = start (args .table .now) (args .block) in
     let done = c .before .before .before .before .before .before .before .before .start in
-    tell-answer stateEntries o 33 _ (args .state .now) _ (search needs) (handed-done (done .result) o (done .ensures) (c .before .before .before .before .before .before .enum-told .given .1)) (c .before .before .put-state .ensures)
+    tell-answer stateEntries o 33 _ (args .state .now) _ (search needs) (hands-done (done .ensures) (c .before .before .before .before .before .before .enum-told .given .1)) (c .before .before .put-state .ensures)
 
 pub tickplume-start-spec : {M : Type 1} → statement M
 tickplume-start-spec =
     tie.close
     (tie.spec
-    refusal-requires
+    too-short-requires
     returns
     start-requires
     enum-known-verdict
-    refusal-requires-2
+    word-of-requires
     enum-told
     put-state-requires
     returns-2

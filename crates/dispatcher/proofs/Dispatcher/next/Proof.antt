@@ -1,13 +1,12 @@
 -- `Dispatcher::next`: judged first; then the state after this one.
 -- Assumes nothing.
-use mathlib.Core.Path.{ap, _∙_}
 use native.Mathlib.Omega.{arith}
 use borrow.Author.Needs.{needs}
 use Rattle.paper.specs.Answers.{advanced}
 use Rattle.judge.proofs.Accepted.{accepted-as}
 use Rattle.judge.proofs.Asked.{asked-refused}
-use Rattle.dispatcher.specs.Told.{handed, stateAs, nextBy}
-use Rattle.dispatcher.proofs.Rows.{next-table, asked-by}
+use Rattle.dispatcher.specs.ByLinks.{nextBy}
+use Rattle.dispatcher.proofs.Rows.{hands-same, next-table, asked-by}
 use Rattle.dispatcher.proofs.Dispatcher.next.Statement.{statement}
 use Rattle.dispatcher.proofs.Dispatcher.next.Tie as tie
 
@@ -23,11 +22,8 @@ next-of-requires c κs = omega (arith, accepted-as _ _ _ (c .before .before .bef
 enum-known-judged-2 : tie.Need-enum-known-judged-2
 enum-known-judged-2 c = search needs
 
-number-of-requires : tie.Need-number-of-requires
-number-of-requires c κs = search needs
-
-place-of-requires : tie.Need-place-of-requires
-place-of-requires c κs = search needs
+refusal-of-requires : tie.Need-refusal-of-requires
+refusal-of-requires c κs = search needs
 
 refuse-requires : tie.Need-refuse-requires
 refuse-requires c κs = search needs
@@ -35,14 +31,13 @@ refuse-requires c κs = search needs
 returns : tie.Need-returns
 unfolding advanced
 returns c =
-    let start = c .before .before .before .before .before .before .before .before .before .before in
-    c .next-of .ensures ∙ ap handed (asked-by (λ c m. nextBy c m (stateAs (start .args .self))) _ (next-table (stateAs (start .args .self))) (start .args .b .now) (c .before .before .before .before .before .before .before .before .rule-on .ensures) (c .before .before .before .before .judged .given .1))
+    let args = c .before .before .before .before .before .before .before .before .before .before .before .args in
+    hands-same (c .next-of .ensures) (asked-by (λ l m. nextBy l m (args .self .0)) _ (next-table (args .self .0)) (args .b .now) (c .before .before .before .before .before .before .before .before .rule-on .ensures) (c .before .before .before .before .judged .given .1))
 
 returns-2 : tie.Need-returns-2
 unfolding advanced
 returns-2 c =
-    let start = c .before .before .before .before .before .before .before .before .before .before in
-    c .refuse .ensures ∙ ap handed (asked-refused (start .args .b .now) _ (c .before .before .before .before .before .before .before .before .rule-on .ensures .told) (c .before .before .before .before .judged2 .given .1) (c .before .before .number-of .ensures) (c .before .place-of .ensures))
+    hands-same (c .refuse .ensures) (asked-refused (c .before .before .before .before .before .before .before .before .before .before .args .b .now) _ (c .before .before .before .before .before .before .before .rule-on .ensures .told) (c .before .before .before .judged2 .given .1) (c .before .refusal-of .ensures))
 
 pub next-spec : {M : Type 1} → statement M
 next-spec =
@@ -52,8 +47,7 @@ next-spec =
     enum-known-judged
     next-of-requires
     enum-known-judged-2
-    number-of-requires
-    place-of-requires
+    refusal-of-requires
     refuse-requires
     returns
     returns-2)
