@@ -115,10 +115,12 @@ fn main() {
             &format!("build, {n} duties"),
             20_000 / n,
             || {
-                let _ = black_box(calls::build(black_box(engines), black_box(&services), black_box(&periods), &mut out));
+                let _ =
+                    black_box(calls::build(black_box(engines), black_box(&services), black_box(&periods), &mut out));
             },
             || {
-                let _ = black_box(plain::build(black_box(engines), black_box(&services), black_box(&periods), &mut other));
+                let _ =
+                    black_box(plain::build(black_box(engines), black_box(&services), black_box(&periods), &mut other));
             },
         );
     }

@@ -39,7 +39,12 @@ fn as_pair(refusal: Refusal) -> Refused {
     (refusal.number, refusal.place)
 }
 
-fn differ<T>(what: &str, ours: impl std::fmt::Debug, theirs: impl std::fmt::Debug, about: impl std::fmt::Debug) -> Result<T, String> {
+fn differ<T>(
+    what: &str,
+    ours: impl std::fmt::Debug,
+    theirs: impl std::fmt::Debug,
+    about: impl std::fmt::Debug,
+) -> Result<T, String> {
     Err(format!("{what}: the library says {ours:?}, the second program {theirs:?}\nof {about:?}"))
 }
 
@@ -87,7 +92,8 @@ fn compare_table(seen: &mut Seen, random: &mut Random, table: &[u8], turn: Turn)
     let ours = calls::judge(table).map_err(as_pair);
     match (ours, theirs) {
         (Ok(reading), Ok(block)) => {
-            let told = (reading.block_length as u64, reading.engines as usize, reading.duties as usize, reading.runs as usize);
+            let told =
+                (reading.block_length as u64, reading.engines as usize, reading.duties as usize, reading.runs as usize);
             let counted = (block.ticks, block.rows.len(), block.duties.len(), filler::runs(&block).len());
             if told != counted {
                 return differ("judge", told, counted, table);
@@ -170,7 +176,13 @@ fn units(random: &mut Random, ticks: u64) -> Vec<u64> {
 }
 
 /// 18 to 21, and states made up or left behind.
-fn compare_refusals(seen: &mut Seen, random: &mut Random, table: &[u8], state: &[u64; 33], engines: u32) -> Result<(), String> {
+fn compare_refusals(
+    seen: &mut Seen,
+    random: &mut Random,
+    table: &[u8],
+    state: &[u64; 33],
+    engines: u32,
+) -> Result<(), String> {
     let mut expect = |what: &str, got: Option<Refusal>, number: u8| {
         seen.refusals.insert(number);
         match got {
@@ -269,7 +281,8 @@ fn main() {
             );
             println!("refusals met: {:?}", seen.refusals);
             println!("chain lengths met: {:?}; block lengths met: {}", seen.chains, seen.block_lengths.len());
-            let all = (1..=8).chain(10..=21).all(|n| seen.refusals.contains(&n)) && (1..=32).all(|n| seen.chains.contains(&n));
+            let all = (1..=8).chain(10..=21).all(|n| seen.refusals.contains(&n))
+                && (1..=32).all(|n| seen.chains.contains(&n));
             if !all {
                 println!("not every refusal and chain length was met");
                 std::process::exit(1);

@@ -76,8 +76,7 @@ pub fn question(table: &[u8], engine: Engine, tick: u64) -> Result<Reply, Refusa
 pub fn start(table: &[u8], block: u64) -> Result<[u64; STATE], Refusal> {
     let mut state = [0u64; STATE];
     // SAFETY: see `build`.
-    let word =
-        unsafe { ffi::tickplume_start(table.as_ptr(), table.len(), block, state.as_mut_ptr(), state.len()) };
+    let word = unsafe { ffi::tickplume_start(table.as_ptr(), table.len(), block, state.as_mut_ptr(), state.len()) };
     told(word, state)
 }
 
@@ -110,8 +109,7 @@ pub fn next(table: &[u8], state: &mut [u64; STATE]) -> Result<(), Refusal> {
 pub fn count(table: &[u8], blocks: u64) -> Result<u64, Refusal> {
     let mut answer = [0u64; 1];
     // SAFETY: see `build`.
-    let word =
-        unsafe { ffi::tickplume_count(table.as_ptr(), table.len(), blocks, answer.as_mut_ptr(), answer.len()) };
+    let word = unsafe { ffi::tickplume_count(table.as_ptr(), table.len(), blocks, answer.as_mut_ptr(), answer.len()) };
     told(word, answer[0])
 }
 

@@ -98,10 +98,13 @@ impl Comparison {
         let engine = random.below(most) as u32;
         let tick = far(random);
         let ours = calls::question(table, Engine(engine), tick).map_err(pair).map(|r| {
-            (r.row.0, match r.held {
-                Held::Idle => None,
-                Held::Duty(i) => Some(i),
-            })
+            (
+                r.row.0,
+                match r.held {
+                    Held::Idle => None,
+                    Held::Duty(i) => Some(i),
+                },
+            )
         });
         self.same("question", ours, plain::question(table, engine, tick), &(engine, tick, table));
     }

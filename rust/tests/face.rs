@@ -18,7 +18,15 @@ extern "C" {
     fn tickplume_judge(table: *const u8, table_len: usize, answer: *mut u64, answer_len: usize) -> u64;
     fn tickplume_question(t: *const u8, n: usize, engine: u32, tick: u64, answer: *mut u64, answer_len: usize) -> u64;
     fn tickplume_start(t: *const u8, n: usize, block: u64, state: *mut u64, state_len: usize) -> u64;
-    fn tickplume_row(t: *const u8, n: usize, s: *const u64, s_len: usize, engine: u32, a: *mut u64, a_len: usize) -> u64;
+    fn tickplume_row(
+        t: *const u8,
+        n: usize,
+        s: *const u64,
+        s_len: usize,
+        engine: u32,
+        a: *mut u64,
+        a_len: usize,
+    ) -> u64;
     fn tickplume_next(t: *const u8, n: usize, state: *mut u64, state_len: usize) -> u64;
     fn tickplume_count(t: *const u8, n: usize, blocks: u64, answer: *mut u64, answer_len: usize) -> u64;
 }
