@@ -21,7 +21,7 @@ use Rattle.plan_laws.proofs.TakenWhen.{Taken, taken-told}
 use Rattle.plan_laws.proofs.PlanWhen.{past-taken}
 use Rattle.duty_lists.specs.Sliceable.{Sliceable}
 use Rattle.duty_lists.proofs.Duties.{block-length-is}
-use Rattle.build_fitting.specs.BuildAt.{buildAt}
+use Rattle.builder.specs.BuildAt.{buildAt}
 
 -- ---- the verdict of tests 1 to 5
 

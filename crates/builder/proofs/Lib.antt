@@ -1,1 +1,2 @@
 pub mod AfterTaken
+pub mod Sized

@@ -1,14 +1,54 @@
 // The builder: from services and periods to a table's bytes, by SA1. Tests 1 to 5 come first; past them the block length is known, and what
-// follows takes any block length.
+// follows, the refusals 6 to 8 and the table written, takes any block length.
+ghost use Prim.Native.Nat.{_≤_};
 ghost use lib.ListN.{length};
 ghost use Rattle.paper.specs.Outcome.{Writes};
-ghost use Rattle.paper.specs.Wanted.{wanted};
+ghost use Rattle.paper.specs.Bytes.{small};
+ghost use Rattle.paper.specs.Wanted.{dutiesOf, wanted};
+ghost use Rattle.duty_lists.specs.Sliceable.{Sliceable};
+ghost use Rattle.builder.specs.BuildAt.{buildAt};
 ghost use Rattle.paper.specs.Builder.{build as buildFrom};
-use build_fitting::build_fitting;
+use duty_lists::bad_slice;
 use duty_lists::take_duties;
+use duty_lists::total_slices;
+use paper::Refusal;
 use paper::Verdict;
 use paper::Written;
+use sa1_table::count_runs;
+use sa1_table::put_table;
 use slices::gcd_of_all;
+
+// The builder from refusal 6 on, for any block length in range. The answer is the table's length in bytes.
+fn build_fitting(t: u32, engines: u32, services: &[u32], periods: &[u32], out: &mut [u8]) -> Written
+    requires { ⌜ Sliceable t (now services) (now periods) × (engines ≤ small .mostEngines) ⌝ }
+    ensures { λ r. ⌜ Writes (buildAt t engines (dutiesOf (now (services .entry)) (now (periods .entry))) (length (now (out .entry)))) r (now (out .entry)) (now (out .exit)) ⌝ }
+{
+    let duties = services.len();
+    let bad = bad_slice(t, services, periods);
+    if bad < duties {
+        return Written::Refused(Refusal {
+            number: 6,
+            place: bad,
+        });
+    }
+    let total = total_slices(t, services, periods);
+    if engines * t < total {
+        return Written::Refused(Refusal {
+            number: 7,
+            place: 0,
+        });
+    }
+    let runs = count_runs(t, services, periods);
+    let needed = 10 + 9 * duties + 11 * runs;
+    if out.len() < needed {
+        return Written::Refused(Refusal {
+            number: 8,
+            place: needed,
+        });
+    }
+    put_table(out, t, engines, services, periods, runs);
+    Written::Length(needed)
+}
 
 // Builds a table from services and periods. The answer is the table's length in bytes; bytes past it stay. A refusal
 // writes nothing.

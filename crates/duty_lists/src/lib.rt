@@ -1,17 +1,14 @@
 // What stands in the builder's two lists, services and periods: the duties, and tests 1 to 5, after which they are taken; then the first
 // duty whose slice is not whole, the slices, and what these add up to.
 ghost use mathlib.Core.Path.{_≡_};
-ghost use mathlib.Core.List.{List};
 ghost use Prim.Native.Nat.{_≤_, _<_};
 ghost use lib.ListN.{length};
 ghost use Rattle.laws.specs.Lists.{sumOf};
-ghost use Rattle.laws.specs.Choice.{pick};
 ghost use Rattle.paper.specs.declared.Duty.{Duty};
 ghost use Rattle.paper.specs.Duties.{dutyAt};
 ghost use Rattle.paper.specs.Words.{slice};
 ghost use Rattle.paper.specs.Sa1.{slices};
-ghost use Rattle.paper.specs.Bytes.{mostTicks, within};
-ghost use Rattle.paper.specs.Outcome.{refused, refusedAs, verdictAs};
+ghost use Rattle.paper.specs.Outcome.{verdictAs};
 ghost use Rattle.paper.specs.Wanted.{wanted, dutiesOf, badRange, taken};
 ghost use Rattle.paper.specs.Builder.{badSlice};
 ghost use Rattle.duty_lists.specs.Sliceable.{Paired, Sliceable};
@@ -21,7 +18,7 @@ use paper::Verdict;
 use slices::duty_in_range;
 use slices::is_whole;
 use slices::is_within;
-use slices::period_in_range;
+use slices::range_fault;
 use slices::slice_of;
 
 // Duty i of the two lists.
@@ -48,22 +45,6 @@ fn bad_range(services: &[u32], periods: &[u32]) -> usize
         i += 1;
     }
     i
-}
-
-// Why duty d is out of range: 5 where its period is in range, and so its service is not; else 4.
-fn range_fault(period: u32, d: usize) -> Refusal
-    ensures { λ r. ⌜ refusedAs {A = List Duty} r ≡ pick (within 1 mostTicks period) (refused 5 d) (refused 4 d) ⌝ }
-{
-    if period_in_range(period) {
-        return Refusal {
-            number: 5,
-            place: d,
-        };
-    }
-    Refusal {
-        number: 4,
-        place: d,
-    }
 }
 
 // Takes the duties of the two lists, after tests 1 to 5 in their order.

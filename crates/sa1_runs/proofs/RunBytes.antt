@@ -1,23 +1,20 @@
--- The runs of a duty as bytes, by whether its slice stays in its row; how long they are; and the bytes that are left to write
--- at duty i.
+-- The runs of a duty as bytes, by whether its slice stays in its row; and how long they are.
 -- Assumes nothing.
 use Prim.Native.Nat.{ℕ, _+_, _*_, _-_, _≤_, _<_}
 use mathlib.Core.Path.{_≡_, ap, _∙_}
 use mathlib.Core.List.{List, [], _∷_, _++_, append-nil}
-use lib.ListN.{length, drop}
+use lib.ListN.{length}
 use borrow.Author.Tests.{le-leb, lt-leb}
 use Rattle.laws.specs.Lists.{flat}
-use Rattle.laws.proofs.Lists.{flat-append, flat-end, length-flat}
-use Rattle.paper.specs.declared.Duty.{Duty}
+use Rattle.laws.proofs.Lists.{length-flat}
 use Rattle.paper.specs.declared.Run.{Run}
-use Rattle.paper.specs.Duties.{dutyAt}
-use Rattle.paper.specs.Words.{run, slice}
-use Rattle.paper.specs.Sa1.{layOne, slices}
+use Rattle.paper.specs.Words.{run}
+use Rattle.paper.specs.Sa1.{layOne}
 use Rattle.paper.specs.Bytes.{small, runBytes, runLength}
 use Rattle.table_laws.proofs.Bytes.{length-run}
 use Rattle.sa1_runs.specs.declared.Place.{Place}
-use Rattle.sa1_runs.specs.Laying.{placeAfter, laidAt, laidFrom, runsAt}
-use Rattle.sa1_runs.proofs.Laying.{laid-length, lay-left, lay-none}
+use Rattle.sa1_runs.specs.Laying.{laidAt, runsAt}
+use Rattle.sa1_runs.proofs.Laying.{laid-length}
 use Rattle.sa1_runs.specs.RunBytes.{runsBytes}
 
 -- 11 for each run
@@ -46,16 +43,6 @@ pub bytes-split :
     ≡ runBytes small (run (p .row .0) i (p .unit) (t - p .unit)) ++ (runBytes small (run (p .row .0 + 1) i 0 (p .unit + n - t)) ++ [])
 unfolding flat
 bytes-split t n i p h = ap runsBytes (laid-split t n i p h)
-
-pub bytes-left :
-    (t n : ℕ) (ds : List Duty) (i : ℕ) (p q : Place) → i < length ds → n ≡ slice t (dutyAt ds i) → q ≡ placeAfter t n p
-    → runsBytes (laidFrom t (drop i (slices t ds)) i p) ≡ runsBytes (laidAt t n i p) ++ runsBytes (laidFrom t (drop (i + 1) (slices t ds)) (i + 1) q)
-bytes-left t n ds i p q h e f =
-    ap runsBytes (lay-left t n ds i p q h e f)
-    ∙ flat-append (runBytes small) (laidAt t n i p) (laidFrom t (drop (i + 1) (slices t ds)) (i + 1) q)
-
-pub bytes-none : (t : ℕ) (ds : List Duty) (i : ℕ) (p : Place) → length ds ≤ i → runsBytes (laidFrom t (drop i (slices t ds)) i p) ≡ []
-bytes-none t ds i p h = ap runsBytes (lay-none t ds i p h) ∙ flat-end (runBytes small)
 
 -- how many bytes they have
 pub bytes-length : (t n i : ℕ) (p : Place) → length (runsBytes (laidAt t n i p)) ≡ 11 * runsAt t n (p .unit)

@@ -1,16 +1,12 @@
-// SA1's runs: the row and the unit where each duty starts, how many runs the duties have, and a duty's one run, or the two of a split,
-// as bytes, each where the last one stopped.
+// SA1's runs: the row and the unit where each duty starts, and a duty's one run, or the two of a split, as bytes, each where the last one
+// stopped.
 ghost use mathlib.Core.Path.{_≡_};
 ghost use Prim.Native.Nat.{_+_, _*_, _≤_, _<_};
 ghost use lib.ListN.{length};
-ghost use Rattle.paper.specs.Sa1.{slices};
 ghost use Rattle.paper.specs.Bytes.{small, mostTicks};
-ghost use Rattle.paper.specs.Wanted.{dutiesOf};
-ghost use Rattle.duty_lists.specs.Sliceable.{Sliceable};
-ghost use Rattle.sa1_runs.specs.Laying.{placeAfter, laidFrom, runsAt, corner, laidAt};
+ghost use Rattle.sa1_runs.specs.Laying.{placeAfter, laidAt, runsAt};
 ghost use Rattle.laws.specs.Lists.{over};
 ghost use Rattle.sa1_runs.specs.RunBytes.{runsBytes};
-use duty_lists::slice_at;
 use paper::Row;
 use paper::Run;
 use record_write::put_run;
@@ -38,37 +34,6 @@ pub fn after(t: u32, n: u32, from: Place) -> Place
         row: Row(row + 1),
         unit: end - t,
     }
-}
-
-// How many runs n units from a unit on make: one, or two where they go past the end of the row.
-fn runs_at(t: u32, n: u32, unit: u32) -> usize
-    requires { ⌜ (unit < t) × (n ≤ t) × (t ≤ mostTicks) ⌝ }
-    ensures { λ r. ⌜ (r ≡ runsAt t n unit) × (r ≤ 2) ⌝ }
-{
-    if unit + n <= t {
-        return 1;
-    }
-    2
-}
-
-// How many runs SA1 makes of the duties.
-pub fn count_runs(t: u32, services: &[u32], periods: &[u32]) -> usize
-    requires { ⌜ Sliceable t (now services) (now periods) ⌝ }
-    ensures { λ r. ⌜ (r ≡ length (laidFrom t (slices t (dutiesOf (now (services .entry)) (now (periods .entry)))) 0 corner)) × (r ≤ 2 * length (now (services .entry))) ⌝ }
-{
-    let mut runs = 0;
-    let mut place = Place {
-        row: Row(0),
-        unit: 0,
-    };
-    let mut i = 0;
-    while i < services.len() {
-        let n = slice_at(t, services, periods, i);
-        runs += runs_at(t, n, place.unit);
-        place = after(t, n, place);
-        i += 1;
-    }
-    runs
 }
 
 // Writes the two runs of duty i, whose slice of n units goes past the end of the row: the first goes to the end, the second

@@ -1,1 +1,2 @@
+pub mod LaidLeft
 pub mod Table

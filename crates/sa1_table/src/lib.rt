@@ -1,13 +1,13 @@
-// SA1's table as bytes: the head, the duties, the runs and the end, each record where the last one stopped.
+// SA1's table as bytes: how many runs it has; and the head, the duties, the runs and the end, each record where the last one stopped.
 ghost use mathlib.Core.Path.{_≡_};
-ghost use Prim.Native.Nat.{_+_, _*_, _≤_};
+ghost use Prim.Native.Nat.{_+_, _*_, _≤_, _<_};
 ghost use lib.ListN.{length};
 ghost use Rattle.laws.specs.Lists.{over, flat};
 ghost use Rattle.paper.specs.Sa1.{slices, sa1};
-ghost use Rattle.paper.specs.Bytes.{small, dutyBytes, encode};
+ghost use Rattle.paper.specs.Bytes.{small, mostTicks, dutyBytes, encode};
 ghost use Rattle.paper.specs.Wanted.{dutiesOf};
 ghost use Rattle.duty_lists.specs.Sliceable.{Paired, Sliceable};
-ghost use Rattle.sa1_runs.specs.Laying.{laidFrom, corner};
+ghost use Rattle.sa1_runs.specs.Laying.{laidFrom, runsAt, corner};
 ghost use Rattle.sa1_runs.specs.RunBytes.{runsBytes};
 use duty_lists::duty_at;
 use duty_lists::slice_at;
@@ -18,6 +18,37 @@ use record_write::put_head;
 use sa1_runs::Place;
 use sa1_runs::after;
 use sa1_runs::put_duty_runs;
+
+// How many runs n units from a unit on make: one, or two where they go past the end of the row.
+fn runs_at(t: u32, n: u32, unit: u32) -> usize
+    requires { ⌜ (unit < t) × (n ≤ t) × (t ≤ mostTicks) ⌝ }
+    ensures { λ r. ⌜ (r ≡ runsAt t n unit) × (r ≤ 2) ⌝ }
+{
+    if unit + n <= t {
+        return 1;
+    }
+    2
+}
+
+// How many runs SA1 makes of the duties.
+pub fn count_runs(t: u32, services: &[u32], periods: &[u32]) -> usize
+    requires { ⌜ Sliceable t (now services) (now periods) ⌝ }
+    ensures { λ r. ⌜ (r ≡ length (laidFrom t (slices t (dutiesOf (now (services .entry)) (now (periods .entry)))) 0 corner)) × (r ≤ 2 * length (now (services .entry))) ⌝ }
+{
+    let mut runs = 0;
+    let mut place = Place {
+        row: Row(0),
+        unit: 0,
+    };
+    let mut i = 0;
+    while i < services.len() {
+        let n = slice_at(t, services, periods, i);
+        runs += runs_at(t, n, place.unit);
+        place = after(t, n, place);
+        i += 1;
+    }
+    runs
+}
 
 // Writes the duties over the front of the lent rest.
 fn put_duties(out: &mut [u8], services: &[u32], periods: &[u32])

@@ -1,10 +1,15 @@
-// Arithmetic of a plan: a number's and a duty's ranges, the greatest common divisor, and a duty's slice.
+// Arithmetic of a plan: a number's and a duty's ranges, and why a duty is out of range; the greatest common divisor; a duty's slice.
 ghost use mathlib.Core.Path.{_≡_};
+ghost use mathlib.Core.List.{List};
 ghost use Prim.Native.Nat.{_*_, _/_, _%_, _≤_, _<_};
 ghost use Rattle.laws.specs.Divisor.{gcd, gcdOf};
+ghost use Rattle.laws.specs.Choice.{pick};
+ghost use Rattle.paper.specs.declared.Duty.{Duty};
 ghost use Rattle.paper.specs.Words.{slice, whole};
+ghost use Rattle.paper.specs.Outcome.{refused, refusedAs};
 ghost use Rattle.paper.specs.Bytes.{mostTicks, within, dutyRanged};
 use paper::Duty;
+use paper::Refusal;
 
 const MOST_TICKS: u32 = 1000000;
 
@@ -27,6 +32,22 @@ pub fn duty_in_range(x: Duty) -> bool
     ensures { λ r. ⌜ r ≡ dutyRanged x ⌝ }
 {
     ((1 <= x.period) & (x.period <= MOST_TICKS)) & ((1 <= x.service) & (x.service <= x.period))
+}
+
+// Why duty d is out of range: 5 where its period is in range, and so its service is not; else 4.
+pub fn range_fault(period: u32, d: usize) -> Refusal
+    ensures { λ r. ⌜ refusedAs {A = List Duty} r ≡ pick (within 1 mostTicks period) (refused 5 d) (refused 4 d) ⌝ }
+{
+    if period_in_range(period) {
+        return Refusal {
+            number: 5,
+            place: d,
+        };
+    }
+    Refusal {
+        number: 4,
+        place: d,
+    }
 }
 
 // The greatest common divisor, by Euclid's steps.

@@ -1,17 +1,24 @@
--- What a dispatcher hands back says its outcome: the verdict, and with it the state.
+-- What a dispatcher hands back says its outcome, so handing it over to the caller tells that outcome.
 -- Assumes nothing.
-use mathlib.Core.Path.{_≡_, sym, ap, _∙_}
-use Rattle.paper.specs.declared.Refusal.{Refusal}
+use Prim.Native.Nat.{ℕ, _≤_}
+use mathlib.Core.Path.{sym, ap, _∙_}
+use mathlib.Core.List.{List}
+use lib.ListN.{length}
 use Rattle.paper.specs.declared.State.{State}
-use Rattle.paper.specs.declared.Verdict.the-variants.{Done, Refused}
 use Rattle.paper.specs.declared.Dispatched.{Dispatched}
-use Rattle.paper.specs.Outcome.{Outcome, answer, refusedAs, verdictAs}
+use Rattle.paper.specs.Outcome.{Outcome, verdictAs}
 use Rattle.paper.specs.Answers.{Hands}
+use Rattle.paper.specs.Face.{Tells, entries, needing, stateEntries}
+use Rattle.plan_laws.proofs.Listed.{Listed}
+use Rattle.face_states.specs.InWord.{InWord}
+use Rattle.tickplume.proofs.Telling.{tell-next}
 
--- refused
-pub hands-refused : {o : Outcome State} {r : Dispatched} {x : Refusal} → Hands o r → r .verdict ≡ Refused x → o ≡ refusedAs x
-hands-refused {o} {r} h v = sym (h .said) ∙ ap (λ w. verdictAs w (r .state)) v
+module _ {o : Outcome State} {r : Dispatched} (h : Hands o r) where
+  -- a refusal that is listed fits a word
+  pub hands-fits : {P : ℕ → Type 0} → Listed P o → InWord (r .verdict)
+  hands-fits l x v = let z = l _ _ (sym (h .said) ∙ ap (λ w. verdictAs w (r .state)) v) in (z .byte, z .place)
 
--- done
-pub hands-done : {o : Outcome State} {r : Dispatched} → Hands o r → r .verdict ≡ Done → o ≡ answer (r .state)
-hands-done {o} {r} h v = sym (h .said) ∙ ap (λ w. verdictAs w (r .state)) v
+  -- what is told of the verdict and the state is told of the outcome
+  pub hands-told : (n word : ℕ) (lent after : List ℕ) → n ≤ length lent → Tells (entries stateEntries (verdictAs (r .verdict) (r .state))) word lent after
+      → Tells (needing n lent (entries stateEntries o)) word lent after
+  hands-told n word lent after l t = tell-next n word lent lent after l (rw (h .said) at t)

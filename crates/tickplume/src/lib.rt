@@ -8,17 +8,16 @@ ghost use Rattle.paper.specs.Face.{Tells, buildCall, buildEntries, judgeCall, q
 use dispatcher::Dispatcher;
 use face_entries::put_reading;
 use face_entries::put_reply;
-use face_entries::put_state;
-use face_entries::rows_in;
 use face_entries::too_short;
 use face_entries::word_of;
+use face_states::hand_over;
+use face_states::rows_in;
 use paper::Answer;
 use paper::Counted;
 use paper::Engine;
 use paper::Judged;
 use paper::RowTold;
 use paper::State;
-use paper::Verdict;
 use paper::Written;
 
 // SA1's plan of the duties, into the lent table.
@@ -92,17 +91,7 @@ pub extern "C" fn tickplume_start(table: &[u8], block: u64, state: &mut [u64]) -
     if state.len() < 33 {
         return too_short(33);
     }
-    let done = Dispatcher::start(table, block);
-    let verdict = done.verdict;
-    match verdict {
-        Verdict::Refused(why) => word_of(why),
-        Verdict::Done => {
-            let next = done.state;
-            let rows = next.rows;
-            put_state(state, next.block, rows);
-            0
-        }
-    }
+    hand_over(Dispatcher::start(table, block), state)
 }
 
 // The row of an engine in the state's block.
@@ -139,17 +128,7 @@ pub extern "C" fn tickplume_next(table: &[u8], state: &mut [u64]) -> u64
     let rows = rows_in(state);
     let block = state[0];
     let here = Dispatcher(State { block, rows });
-    let done = here.next(table);
-    let verdict = done.verdict;
-    match verdict {
-        Verdict::Refused(why) => word_of(why),
-        Verdict::Done => {
-            let next = done.state;
-            let rows = next.rows;
-            put_state(state, next.block, rows);
-            0
-        }
-    }
+    hand_over(here.next(table), state)
 }
 
 // The loads of the first blocks.

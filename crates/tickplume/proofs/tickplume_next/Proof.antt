@@ -1,11 +1,11 @@
 -- `tickplume_next`: the dispatcher's verdict as a word, or the next state as 33 entries.
 -- Assumes nothing.
 use borrow.Author.Needs.{needs}
-use Rattle.paper.specs.Answers.{advanced}
+use Rattle.paper.specs.Answers.{Hands, advanced}
 use Rattle.plan_laws.proofs.Listed.{next-listed}
 use Rattle.paper.specs.Face.{nextCall, entries, stateEntries, stateIn}
-use Rattle.tickplume.proofs.Telling.{tell-short, tell-refused, tell-answer}
-use Rattle.tickplume.proofs.Handing.{hands-refused, hands-done}
+use Rattle.tickplume.proofs.Telling.{tell-short}
+use Rattle.tickplume.proofs.Handing.{hands-fits, hands-told}
 use Rattle.tickplume.proofs.Cut.{next-asked}
 use Rattle.tickplume.proofs.tickplume_next.Statement.{statement}
 use Rattle.tickplume.proofs.tickplume_next.Tie as tie
@@ -28,47 +28,19 @@ slice-read-block c = search needs
 next-requires : tie.Need-next-requires
 next-requires c κs = search needs
 
-enum-known-verdict : tie.Need-enum-known-verdict
-enum-known-verdict c = search needs
+-- what it hands back is by the rows taken, and so by the state
+asked : (c : tie.After-next) → Hands (advanced (c .before .before .before .before .before .before .before .args .table .now) (stateIn (c .before .before .before .before .before .before .before .args .state .now))) (c .next .result)
+asked c = next-asked (c .before .before .before .before .before .before .before .args .table .now) (c .before .before .before .before .before .before .before .args .state .now) (c .before .before .rows-in .result) (c .before .before .rows-in .ensures) (c .next .ensures)
 
-word-of-requires : tie.Need-word-of-requires
-word-of-requires c κs =
-    let taken = c .before .before .before .before .before .rows-in in
-    let args = c .before .before .before .before .before .before .before .before .before .before .args in
-    let o = advanced (args .table .now) (stateIn (args .state .now)) in
-    let told = next-asked (args .table .now) (args .state .now) (taken .result) (taken .ensures) (c .before .before .before .next .ensures) in
-    let z = next-listed (args .table .now) (stateIn (args .state .now)) _ _ (hands-refused told (c .before .verdict .given .1)) in
-    (z .byte, z .place)
-
-enum-told : tie.Need-enum-told
-enum-told c = search needs
-
-put-state-requires : tie.Need-put-state-requires
-put-state-requires c κs = search needs
+hand-over-requires : tie.Need-hand-over-requires
+hand-over-requires c κs = (hands-fits (asked (c .before)) (next-listed (c .before .before .before .before .before .before .before .before .args .table .now) (stateIn (c .before .before .before .before .before .before .before .before .args .state .now))), search needs)
 
 same-length : tie.Need-same-length
 same-length c = search needs
 
 returns-2 : tie.Need-returns-2
 unfolding nextCall
-returns-2 c =
-    let taken = c .before .before .before .before .before .before .rows-in in
-    let args = c .before .before .before .before .before .before .before .before .before .before .before .args in
-    let o = advanced (args .table .now) (stateIn (args .state .now)) in
-    let told = next-asked (args .table .now) (args .state .now) (taken .result) (taken .ensures) (c .before .before .before .before .next .ensures) in
-    tell-refused stateEntries o 33 _ _ _ (args .state .now) (search needs) (hands-refused told (c .before .before .verdict .given .1)) (c .word-of .ensures)
-
-same-length-2 : tie.Need-same-length-2
-same-length-2 c = search needs
-
-returns-3 : tie.Need-returns-3
-unfolding nextCall
-returns-3 c =
-    let taken = c .before .before .before .before .before .before .before .before .before .before .rows-in in
-    let args = c .before .before .before .before .before .before .before .before .before .before .before .before .before .before .before .args in
-    let o = advanced (args .table .now) (stateIn (args .state .now)) in
-    let told = next-asked (args .table .now) (args .state .now) (taken .result) (taken .ensures) (c .before .before .before .before .before .before .before .before .next .ensures) in
-    tell-answer stateEntries o 33 _ (args .state .now) _ (search needs) (hands-done told (c .before .before .before .before .before .before .enum-told .given .1)) (c .before .before .put-state .ensures)
+returns-2 c = hands-told (asked (c .before .before .before .before)) 33 _ (c .before .before .before .before .before .before .before .before .before .before .before .args .state .now) _ (search needs) (c .before .before .hand-over .ensures)
 
 pub tickplume-next-spec : {M : Type 1} → statement M
 tickplume-next-spec =
@@ -79,11 +51,6 @@ tickplume-next-spec =
     rows-in-requires
     slice-read-block
     next-requires
-    enum-known-verdict
-    word-of-requires
-    enum-told
-    put-state-requires
+    hand-over-requires
     same-length
-    returns-2
-    same-length-2
-    returns-3)
+    returns-2)

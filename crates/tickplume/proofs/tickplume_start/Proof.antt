@@ -4,8 +4,8 @@ use borrow.Author.Needs.{needs}
 use Rattle.paper.specs.Answers.{start}
 use Rattle.plan_laws.proofs.Listed.{start-listed}
 use Rattle.paper.specs.Face.{startCall, entries, stateEntries}
-use Rattle.tickplume.proofs.Telling.{tell-short, tell-refused, tell-answer}
-use Rattle.tickplume.proofs.Handing.{hands-refused, hands-done}
+use Rattle.tickplume.proofs.Telling.{tell-short}
+use Rattle.tickplume.proofs.Handing.{hands-fits, hands-told}
 use Rattle.tickplume.proofs.tickplume_start.Statement.{statement}
 use Rattle.tickplume.proofs.tickplume_start.Tie as tie
 
@@ -21,41 +21,15 @@ returns c =
 start-requires : tie.Need-start-requires
 start-requires c κs = search needs
 
-enum-known-verdict : tie.Need-enum-known-verdict
-enum-known-verdict c = search needs
-
-word-of-requires : tie.Need-word-of-requires
-word-of-requires c κs =
-    let args = c .before .before .before .before .before .before .before .args in
-    let o = start (args .table .now) (args .block) in
-    let done = c .before .before .before .start in
-    let z = start-listed (args .table .now) (args .block) _ _ (hands-refused (done .ensures) (c .before .verdict .given .1)) in
-    (z .byte, z .place)
-
-enum-told : tie.Need-enum-told
-enum-told c = search needs
-
-put-state-requires : tie.Need-put-state-requires
-put-state-requires c κs = search needs
-
-returns-2 : tie.Need-returns-2
-unfolding startCall
-returns-2 c =
-    let args = c .before .before .before .before .before .before .before .before .args in
-    let o = start (args .table .now) (args .block) in
-    let done = c .before .before .before .before .start in
-    tell-refused stateEntries o 33 _ _ _ (args .state .now) (search needs) (hands-refused (done .ensures) (c .before .before .verdict .given .1)) (c .word-of .ensures)
+hand-over-requires : tie.Need-hand-over-requires
+hand-over-requires c κs = (hands-fits (c .before .start .ensures) (start-listed (c .before .before .before .before .before .args .table .now) (c .before .before .before .before .before .args .block)), search needs)
 
 same-length : tie.Need-same-length
 same-length c = search needs
 
-returns-3 : tie.Need-returns-3
+returns-2 : tie.Need-returns-2
 unfolding startCall
-returns-3 c =
-    let args = c .before .before .before .before .before .before .before .before .before .before .before .before .args in
-    let o = start (args .table .now) (args .block) in
-    let done = c .before .before .before .before .before .before .before .before .start in
-    tell-answer stateEntries o 33 _ (args .state .now) _ (search needs) (hands-done (done .ensures) (c .before .before .before .before .before .before .enum-told .given .1)) (c .before .before .put-state .ensures)
+returns-2 c = hands-told (c .before .before .before .before .start .ensures) 33 _ (c .before .before .before .before .before .before .before .before .args .state .now) _ (search needs) (c .before .before .hand-over .ensures)
 
 pub tickplume-start-spec : {M : Type 1} → statement M
 tickplume-start-spec =
@@ -64,10 +38,6 @@ tickplume-start-spec =
     too-short-requires
     returns
     start-requires
-    enum-known-verdict
-    word-of-requires
-    enum-told
-    put-state-requires
-    returns-2
+    hand-over-requires
     same-length
-    returns-3)
+    returns-2)

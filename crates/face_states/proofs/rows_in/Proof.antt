@@ -7,8 +7,8 @@ use lib.ListN.{getD}
 use mathlib.Core.List.{List}
 use native.Mathlib.Omega.{arith}
 use Rattle.laws.proofs.Lists.{Filled, filled-more, filled-all, filled-none}
-use Rattle.face_entries.proofs.rows_in.Statement.{statement}
-use Rattle.face_entries.proofs.rows_in.Tie as tie
+use Rattle.face_states.proofs.rows_in.Statement.{statement}
+use Rattle.face_states.proofs.rows_in.Tie as tie
 
 -- what stands in the state for engine e
 abbrev entry : List ℕ → ℕ → ℕ

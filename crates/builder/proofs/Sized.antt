@@ -12,7 +12,7 @@ use Rattle.paper.specs.Sa1.{slices, sa1}
 use Rattle.paper.specs.Outcome.{refused, answer}
 use Rattle.paper.specs.Bytes.{small, encode}
 use Rattle.paper.specs.Builder.{badSlice, planAt, fitted}
-use Rattle.build_fitting.specs.BuildAt.{buildAt}
+use Rattle.builder.specs.BuildAt.{buildAt}
 
 module _ (t m : ℕ) (ds : List Duty) where
   pub refusal-6 : (room d : ℕ) → d ≡ badSlice t ds → d < length ds → buildAt t m ds room ≡ refused 6 d

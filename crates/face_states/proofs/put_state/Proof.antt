@@ -9,9 +9,9 @@ use mathlib.Core.List.{[], _∷_}
 use lib.ListN.{length, drop, getD, length-set, drop-of-length-le}
 use lib.Seq.{drop-cons}
 use Rattle.laws.proofs.Writing.{Wrote, stored, done, next}
-use Rattle.face_entries.proofs.Opened.{opened, opened-over}
-use Rattle.face_entries.proofs.put_state.Statement.{statement}
-use Rattle.face_entries.proofs.put_state.Tie as tie
+use Rattle.face_states.proofs.Opened.{opened, opened-over}
+use Rattle.face_states.proofs.put_state.Statement.{statement}
+use Rattle.face_states.proofs.put_state.Tie as tie
 
 abbrev Inv-loop : tie.InvT-loop
 Inv-loop state₀ block rows e₀ state e = (e ≤ 32) × (length rows ≡ 32) × (33 ≤ length state₀) × (length state ≡ length state₀) × Wrote (getD state₀ 0 0 ∷ rows) state₀ (drop e rows) state (e + 1)

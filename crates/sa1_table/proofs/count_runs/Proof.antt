@@ -7,11 +7,11 @@ use borrow.Author.Needs.{needs}
 use lib.ListN.{length, drop}
 use Rattle.paper.specs.Sa1.{slices}
 use Rattle.paper.specs.Wanted.{dutiesOf}
 use Rattle.sa1_runs.specs.Laying.{laidFrom, corner}
 use Rattle.plan_laws.proofs.Planned.{length-duties}
-use Rattle.sa1_runs.proofs.Laying.{count-left, count-none}
-use Rattle.sa1_runs.proofs.count_runs.Statement.{statement}
-use Rattle.sa1_runs.proofs.count_runs.Tie as tie
+use Rattle.sa1_table.proofs.LaidLeft.{count-left, count-none}
+use Rattle.sa1_table.proofs.count_runs.Statement.{statement}
+use Rattle.sa1_table.proofs.count_runs.Tie as tie
 
 abbrev Inv-loop : tie.InvT-loop
 Inv-loop t services periods runs₀ place₀ i₀ runs place i =

@@ -2,8 +2,8 @@
 -- Assumes nothing.
 use mathlib.Core.Path.{sym, _∙_}
 use borrow.Author.Needs.{needs}
-use Rattle.duty_lists.proofs.range_fault.Statement.{statement}
-use Rattle.duty_lists.proofs.range_fault.Tie as tie
+use Rattle.slices.proofs.range_fault.Statement.{statement}
+use Rattle.slices.proofs.range_fault.Tie as tie
 
 period-in-range-requires : tie.Need-period-in-range-requires
 period-in-range-requires c κs = search needs

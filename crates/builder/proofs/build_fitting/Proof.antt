@@ -18,9 +18,9 @@ use Rattle.paper.specs.Builder.{badSlice, planAt}
 use Rattle.paper.proofs.Outcomes.{writes-refused, writes-length}
 use Rattle.plan_laws.proofs.Planned.{length-duties}
 use Rattle.sa1_table.proofs.Table.{sa1-length}
-use Rattle.build_fitting.proofs.Sized.{refusal-6, refusal-7, past-7, refusal-8, past-8}
-use Rattle.build_fitting.proofs.build_fitting.Statement.{statement}
-use Rattle.build_fitting.proofs.build_fitting.Tie as tie
+use Rattle.builder.proofs.Sized.{refusal-6, refusal-7, past-7, refusal-8, past-8}
+use Rattle.builder.proofs.build_fitting.Statement.{statement}
+use Rattle.builder.proofs.build_fitting.Tie as tie
 
 -- the duties, and SA1's table of them
 abbrev duties : tie.Start → List Duty
