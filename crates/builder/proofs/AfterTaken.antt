@@ -6,9 +6,9 @@ use mathlib.Core.Path.{_≡_, sym, ap, _∙_}
 use native.Mathlib.Omega.{arith}
 use lib.ListN.{length}
 use Rattle.laws.specs.Divisor.{gcdOf}
-use Rattle.paper_types.specs.declared.Refusal.{Refusal}
-use Rattle.paper_types.specs.declared.Verdict.{Verdict}
-use Rattle.paper_types.specs.declared.Verdict.the-variants.{Done, Refused}
+use Rattle.paper.specs.declared.Refusal.{Refusal}
+use Rattle.paper.specs.declared.Verdict.{Verdict}
+use Rattle.paper.specs.declared.Verdict.the-variants.{Done, Refused}
 use Rattle.paper.specs.Words.{Table, blockLengthOf}
 use Rattle.paper.specs.Outcome.{Outcome, andThen, refusedAs, verdictAs}
 use Rattle.paper.specs.Bytes.{small, encode}

@@ -6,7 +6,7 @@ use mathlib.Core.List.{List}
 use lib.ListN.{length}
 use borrow.Author.Tests.{lt-ltb, le-ltb}
 use Rattle.laws.specs.Lists.{sumOf}
-use Rattle.paper_types.specs.declared.Duty.{Duty}
+use Rattle.paper.specs.declared.Duty.{Duty}
 use Rattle.paper.specs.Words.{Table}
 use Rattle.paper.specs.Sa1.{slices, sa1}
 use Rattle.paper.specs.Outcome.{refused, answer}

@@ -10,7 +10,7 @@ use native.Mathlib.Omega.{arith}
 use lib.ListN.{getD}
 use Rattle.laws.specs.Choice.{one-if}
 use Rattle.laws.proofs.Sum.{sum-ext, sum-none, sum-more}
-use Rattle.paper_types.specs.declared.Reading.{Reading}
+use Rattle.paper.specs.declared.Reading.{Reading}
 use Rattle.paper.specs.Words.{row, Table, heldIn}
 use Rattle.paper.specs.Rotation.{link, firstOf, nextOf}
 use Rattle.paper.proofs.Rotation.{next-linked, next-last}
@@ -19,8 +19,8 @@ use Rattle.paper.specs.Statements.{Meets}
 use Rattle.paper.proofs.Links.{closed}
 use Rattle.paper.proofs.Loads.{carries, carried, later}
 use Rattle.walk_laws.proofs.Starts.{laid, later-runs}
-use Rattle.records.specs.Formed.{Formed, tableOf}
-use Rattle.records.proofs.Table.{table-engines, table-runs, table-ranged}
+use Rattle.record_read.specs.Formed.{Formed, tableOf}
+use Rattle.record_read.proofs.Table.{table-engines, table-runs, table-ranged}
 use Rattle.table_tally.specs.Tally.{startsOf, endsOf}
 use Rattle.row_edges.specs.Links.{sameCode, linkOf}
 use Rattle.row_edges.proofs.Linking.{link-at}

@@ -2,7 +2,7 @@
 ghost use mathlib.Core.Path.{_≡_};
 ghost use Prim.Native.Nat.{_≤_, _<_};
 ghost use Rattle.carried_over.specs.Carried.{carriesOf, carriedOf};
-use paper_types::Row;
+use paper::Row;
 use rotation::chain_first;
 use row_edges::linked;
 use row_edges::same_duty;

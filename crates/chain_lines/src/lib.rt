@@ -9,7 +9,7 @@ ghost use Rattle.carried_over.specs.Carried.{carriedOf};
 ghost use Rattle.paper.specs.Outcome.{Puts};
 ghost use Rattle.chain_lines.specs.Parts.{chainLinesBy, rotationLinesBy};
 use carried_over::carried;
-use paper_types::Row;
+use paper::Row;
 use rotation::chain_last;
 use table_lines::print_chain;
 use table_lines::print_loads;

@@ -9,9 +9,9 @@ use lib.ListN.{length}
 use Rattle.laws.specs.Choice.{one-if}
 use Rattle.laws.specs.Sum.{sumTo}
 use Rattle.laws.proofs.Digits.{AreBytes}
-use Rattle.paper_types.specs.declared.Engine.{Engine}
-use Rattle.paper_types.specs.declared.Duty.{Duty}
-use Rattle.paper_types.specs.declared.Held.the-variants.{By}
+use Rattle.paper.specs.declared.Engine.{Engine}
+use Rattle.paper.specs.declared.Duty.{Duty}
+use Rattle.paper.specs.declared.Held.the-variants.{By}
 use Rattle.paper.specs.Duties.{engine, jobStart, dutyAt}
 use Rattle.paper.specs.Words.{row, blockLengthOf, Table, heldIn}
 use Rattle.paper.specs.Sa1.{sa1}
@@ -24,7 +24,7 @@ use Rattle.paper.specs.Wanted.{Wanted, wantedOf, dutySet, taken}
 use Rattle.paper.specs.Builder.{plan, build}
 use Rattle.paper.specs.Rules.{accepted, judged}
 use Rattle.paper.specs.Statements.{Ranged, Meets}
-use Rattle.paper_types.specs.declared.State.{State}
+use Rattle.paper.specs.declared.State.{State}
 use Rattle.paper.specs.Answers.{replyOf, rowsAt, stateAt, mostBlocks, question, start, rowTold, advanced, counted}
 use Rattle.paper.specs.Text.{input}
 use Rattle.paper.proofs.Outcomes.{refused-leaves}

@@ -13,8 +13,8 @@ use Rattle.laws.specs.Digits.{digits, numAt}
 use Rattle.laws.specs.Divisor.{gcdOf, gcd, euclid}
 use Rattle.laws.proofs.Lists.{length-tab}
 use Rattle.laws.proofs.Digits.{AreBytes}
-use Rattle.paper_types.specs.declared.Duty.{Duty}
-use Rattle.paper_types.specs.declared.Held.the-variants.{By}
+use Rattle.paper.specs.declared.Duty.{Duty}
+use Rattle.paper.specs.declared.Held.the-variants.{By}
 use Rattle.paper.specs.Duties.{duty, engine, same}
 use Rattle.paper.specs.Words.{run, row, slice, whole, covers, heldIn, blockLengthOf, Table}
 use Rattle.paper.specs.Sa1.{sa1, lay, layOne, rowAfter, unitAfter}

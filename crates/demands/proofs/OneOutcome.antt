@@ -11,26 +11,26 @@ use lib.Dec.{ltb, eqb}
 use lib.ListN.{length}
 use Rattle.laws.specs.Choice.{pick}
 use Rattle.laws.proofs.Cases.{by-cases, one-to-one}
-use Rattle.paper_types.specs.declared.Row.{Row}
-use Rattle.paper_types.specs.declared.Reading.{Reading}
-use Rattle.paper_types.specs.declared.Refusal.{Refusal}
-use Rattle.paper_types.specs.declared.Fault.{Fault}
-use Rattle.paper_types.specs.declared.Fault.the-variants.{Form, BlockLength, Slice, Order, Overlap, Joint, Twice, Service}
-use Rattle.paper_types.specs.declared.Judged.{Judged}
-use Rattle.paper_types.specs.declared.Judged.the-variants.{Accepted, Bad}
-use Rattle.paper_types.specs.declared.Written.{Written}
-use Rattle.paper_types.specs.declared.Written.the-variants.{Length, Refused as NotWritten}
-use Rattle.paper_types.specs.declared.Verdict.{Verdict}
-use Rattle.paper_types.specs.declared.Verdict.the-variants.{Done, Refused as NotDone}
-use Rattle.paper_types.specs.declared.Reply.{Reply}
-use Rattle.paper_types.specs.declared.Answer.{Answer}
-use Rattle.paper_types.specs.declared.Answer.the-variants.{Replies, Refused as NoReply}
-use Rattle.paper_types.specs.declared.State.{State}
-use Rattle.paper_types.specs.declared.Dispatched.{Dispatched}
-use Rattle.paper_types.specs.declared.RowTold.{RowTold}
-use Rattle.paper_types.specs.declared.RowTold.the-variants.{At, Refused as NoRow}
-use Rattle.paper_types.specs.declared.Counted.{Counted}
-use Rattle.paper_types.specs.declared.Counted.the-variants.{Loads, Refused as NoCount}
+use Rattle.paper.specs.declared.Row.{Row}
+use Rattle.paper.specs.declared.Reading.{Reading}
+use Rattle.paper.specs.declared.Refusal.{Refusal}
+use Rattle.paper.specs.declared.Fault.{Fault}
+use Rattle.paper.specs.declared.Fault.the-variants.{Form, BlockLength, Slice, Order, Overlap, Joint, Twice, Service}
+use Rattle.paper.specs.declared.Judged.{Judged}
+use Rattle.paper.specs.declared.Judged.the-variants.{Accepted, Bad}
+use Rattle.paper.specs.declared.Written.{Written}
+use Rattle.paper.specs.declared.Written.the-variants.{Length, Refused as NotWritten}
+use Rattle.paper.specs.declared.Verdict.{Verdict}
+use Rattle.paper.specs.declared.Verdict.the-variants.{Done, Refused as NotDone}
+use Rattle.paper.specs.declared.Reply.{Reply}
+use Rattle.paper.specs.declared.Answer.{Answer}
+use Rattle.paper.specs.declared.Answer.the-variants.{Replies, Refused as NoReply}
+use Rattle.paper.specs.declared.State.{State}
+use Rattle.paper.specs.declared.Dispatched.{Dispatched}
+use Rattle.paper.specs.declared.RowTold.{RowTold}
+use Rattle.paper.specs.declared.RowTold.the-variants.{At, Refused as NoRow}
+use Rattle.paper.specs.declared.Counted.{Counted}
+use Rattle.paper.specs.declared.Counted.the-variants.{Loads, Refused as NoCount}
 use Rattle.paper.specs.Outcome.{Outcome, refused, answer, refusal, refusalOf, verdictAs, writtenAs, leaves, Writes, judgedAs}
 use Rattle.paper.specs.Wanted.{Wanted}
 use Rattle.paper.specs.Answers.{answerAs, Hands, rowAs, countAs}

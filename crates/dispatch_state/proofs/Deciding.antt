@@ -6,7 +6,7 @@ use mathlib.Core.Bool.{Bool, true, false, not}
 use mathlib.Core.List.{List}
 use borrow.Author.Tests.{not-true, not-false, lt-ltb, le-ltb, eq-eqb, ne-eqb}
 use Rattle.laws.specs.Lists.{same-list}
-use Rattle.paper_types.specs.declared.Engine.{Engine}
+use Rattle.paper.specs.declared.Engine.{Engine}
 use Rattle.paper.specs.Rotation.{rowAt}
 use Rattle.paper.specs.Outcome.{refused, answer}
 use Rattle.dispatch_state.specs.RowsBy.{rowsBy}

@@ -5,8 +5,8 @@ use mathlib.Core.List.{List}
 use lib.Dec.{ltb, eqb}
 use Rattle.laws.specs.Choice.{pick}
 use Rattle.laws.specs.Lists.{same-list}
-use Rattle.paper_types.specs.declared.Row.{Row}
-use Rattle.paper_types.specs.declared.Engine.{Engine}
+use Rattle.paper.specs.declared.Row.{Row}
+use Rattle.paper.specs.declared.Engine.{Engine}
 use Rattle.paper.specs.Rotation.{rowAt}
 use Rattle.paper.specs.Outcome.{Outcome, refused, answer, refusedAs}
 use Rattle.dispatch_state.specs.RowsBy.{rowsBy}

@@ -7,9 +7,9 @@ ghost use Rattle.paper.specs.Answers.{rowAs};
 ghost use Rattle.row_edges.specs.Links.{linkOf};
 ghost use Rattle.dispatch_state.specs.RowsBy.{rowsBy};
 ghost use Rattle.dispatch_state.specs.ByState.{stepAs, stepBy, rowBy};
-use paper_types::Engine;
-use paper_types::Refusal;
-use paper_types::RowTold;
+use paper::Engine;
+use paper::Refusal;
+use paper::RowTold;
 use rotation::row_in;
 
 const MOST_ENGINES: usize = 32;

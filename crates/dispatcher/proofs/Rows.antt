@@ -8,18 +8,18 @@ use lib.Dec.{eqb}
 use Rattle.laws.specs.Choice.{pick}
 use Rattle.laws.specs.Lists.{same-list}
 use Rattle.laws.proofs.Cases.{by-cases}
-use Rattle.paper_types.specs.declared.Engine.{Engine}
-use Rattle.paper_types.specs.declared.Reading.{Reading}
+use Rattle.paper.specs.declared.Engine.{Engine}
+use Rattle.paper.specs.declared.Reading.{Reading}
 use Rattle.paper.specs.Words.{Table}
 use Rattle.paper.specs.Rotation.{link, rowAt}
-use Rattle.paper_types.specs.declared.Judged.the-variants.{Accepted}
+use Rattle.paper.specs.declared.Judged.the-variants.{Accepted}
 use Rattle.paper.specs.Outcome.{Outcome, refused, answer, andThen}
 use Rattle.paper.specs.Rules.{accepted}
-use Rattle.paper_types.specs.declared.State.{State}
-use Rattle.paper_types.specs.declared.Dispatched.{Dispatched}
+use Rattle.paper.specs.declared.State.{State}
+use Rattle.paper.specs.declared.Dispatched.{Dispatched}
 use Rattle.paper.specs.Answers.{rowsAt, ofEngine, ofState, stateAt, Hands}
-use Rattle.records.specs.Formed.{Formed, tableOf}
-use Rattle.records.proofs.Table.{table-engines}
+use Rattle.record_read.specs.Formed.{Formed, tableOf}
+use Rattle.record_read.proofs.Table.{table-engines}
 use Rattle.judge.specs.declared.Ruling.{Ruling}
 use Rattle.judge.specs.Ruled.{Ruled}
 use Rattle.judge.proofs.Accepted.{accepted-as}

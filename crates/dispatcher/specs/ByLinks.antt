@@ -1,7 +1,7 @@
 -- The state of a block and the one after a state, of a table with links c and m engines.
 use Prim.Native.Nat.{ℕ}
 use mathlib.Core.Bool.{Bool}
-use Rattle.paper_types.specs.declared.State.{State}
+use Rattle.paper.specs.declared.State.{State}
 use Rattle.paper.specs.Outcome.{Outcome, answer, andThen}
 use Rattle.dispatch_state.specs.RowsBy.{rowsBy}
 use Rattle.dispatch_state.specs.ByState.{stepBy}

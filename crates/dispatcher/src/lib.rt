@@ -12,13 +12,13 @@ use dispatch_state::rows_at;
 use dispatch_state::tell;
 use judge::refusal_of;
 use judge::rule_on;
-use paper_types::Dispatched;
-use paper_types::Engine;
-use paper_types::Judged;
-use paper_types::Refusal;
-use paper_types::RowTold;
-use paper_types::State;
-use paper_types::Verdict;
+use paper::Dispatched;
+use paper::Engine;
+use paper::Judged;
+use paper::Refusal;
+use paper::RowTold;
+use paper::State;
+use paper::Verdict;
 
 // A dispatcher, by its state.
 pub struct Dispatcher(pub State);

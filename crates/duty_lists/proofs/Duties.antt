@@ -11,7 +11,7 @@ use lib.Seq.{drop-cons}
 use Rattle.laws.specs.Divisor.{gcdOf}
 use Rattle.laws.specs.Lists.{sumOf}
 use Rattle.laws.proofs.Lists.{getD-tab, drop-map, sumOf-step, sumOf-done}
-use Rattle.paper_types.specs.declared.Duty.{Duty}
+use Rattle.paper.specs.declared.Duty.{Duty}
 use Rattle.paper.specs.Duties.{duty, dutyAt}
 use Rattle.paper.specs.Words.{slice, blockLengthOf}
 use Rattle.paper.specs.Sa1.{slices}

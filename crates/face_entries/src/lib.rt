@@ -5,10 +5,10 @@ ghost use lib.ListN.{length};
 ghost use Rattle.laws.specs.Lists.{over};
 ghost use Rattle.paper.specs.Outcome.{mostPlace};
 ghost use Rattle.paper.specs.Face.{readingEntries, heldEntry, replyEntries};
-use paper_types::Held;
-use paper_types::Reading;
-use paper_types::Refusal;
-use paper_types::Reply;
+use paper::Held;
+use paper::Reading;
+use paper::Refusal;
+use paper::Reply;
 
 // A refusal as a word.
 pub fn word_of(why: Refusal) -> u64

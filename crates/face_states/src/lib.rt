@@ -10,8 +10,8 @@ ghost use Rattle.paper.specs.Face.{Tells, entries, stateEntries};
 ghost use Rattle.face_states.specs.InWord.{InWord};
 use face_entries::narrow;
 use face_entries::word_of;
-use paper_types::Dispatched;
-use paper_types::Verdict;
+use paper::Dispatched;
+use paper::Verdict;
 
 // The rows in a lent state.
 pub fn rows_in(state: &[u64]) -> [u32; 32]

@@ -4,16 +4,16 @@
 use Prim.Native.Nat.{ℕ}
 use mathlib.Core.Path.{_≡_, sym, ap, _∙_}
 use mathlib.Core.List.{List}
-use Rattle.paper_types.specs.declared.Fault.{Fault}
-use Rattle.paper_types.specs.declared.Reading.{Reading}
-use Rattle.paper_types.specs.declared.Judged.{Judged}
-use Rattle.paper_types.specs.declared.Judged.the-variants.{Accepted, Bad}
+use Rattle.paper.specs.declared.Fault.{Fault}
+use Rattle.paper.specs.declared.Reading.{Reading}
+use Rattle.paper.specs.declared.Judged.{Judged}
+use Rattle.paper.specs.declared.Judged.the-variants.{Accepted, Bad}
 use Rattle.paper.specs.Outcome.{refused, answer, andThen, refusedAs, refusalOf, judgedAs}
 use Rattle.paper.specs.Bytes.{small, parse}
 use Rattle.paper.specs.Rules.{judgeTable, accepted, readingOf, judged}
 use Rattle.paper.proofs.Outcomes.{answer-one, then-refused, then-answer}
 use Rattle.table_laws.proofs.Accepted.{accepted-read}
-use Rattle.records.specs.Formed.{Formed, tableOf}
+use Rattle.record_read.specs.Formed.{Formed, tableOf}
 use Rattle.table_form.proofs.GoodForm.{formed}
 use Rattle.judge.specs.AcceptedAs.{AcceptedAs}
 

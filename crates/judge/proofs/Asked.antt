@@ -4,19 +4,19 @@
 use Prim.Native.Nat.{ℕ}
 use mathlib.Core.Path.{_≡_}
 use mathlib.Core.List.{List}
-use Rattle.paper_types.specs.declared.Fault.{Fault}
-use Rattle.paper_types.specs.declared.Refusal.{Refusal}
-use Rattle.paper_types.specs.declared.Reading.{Reading}
-use Rattle.paper_types.specs.declared.Judged.{Judged}
-use Rattle.paper_types.specs.declared.Judged.the-variants.{Accepted, Bad}
+use Rattle.paper.specs.declared.Fault.{Fault}
+use Rattle.paper.specs.declared.Refusal.{Refusal}
+use Rattle.paper.specs.declared.Reading.{Reading}
+use Rattle.paper.specs.declared.Judged.{Judged}
+use Rattle.paper.specs.declared.Judged.the-variants.{Accepted, Bad}
 use Rattle.paper.specs.Words.{Table}
 use Rattle.paper.specs.Bytes.{small}
 use Rattle.paper.specs.Statements.{Ranged}
 use Rattle.paper.specs.Outcome.{Outcome, andThen, refusedAs, refusalOf, judgedAs}
 use Rattle.paper.specs.Rules.{accepted, judged}
 use Rattle.table_laws.proofs.Accepted.{accepted-iff, ranged-long}
-use Rattle.records.specs.Formed.{tableOf}
-use Rattle.records.proofs.Table.{table-ranged}
+use Rattle.record_read.specs.Formed.{tableOf}
+use Rattle.record_read.proofs.Table.{table-ranged}
 use Rattle.judge.specs.AcceptedAs.{AcceptedAs}
 use Rattle.judge.proofs.Accepted.{accepted-as, accepted-table, refused-as}
 use Rattle.judge.specs.Ready.{Ready}

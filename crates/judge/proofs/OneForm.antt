@@ -4,12 +4,12 @@
 use Prim.Native.Nat.{ℕ}
 use mathlib.Core.Path.{_≡_, sym, _∙_}
 use mathlib.Core.List.{List}
-use Rattle.paper_types.specs.declared.Reading.{Reading}
+use Rattle.paper.specs.declared.Reading.{Reading}
 use Rattle.paper.specs.Outcome.{refused, answer, andThen}
 use Rattle.paper.specs.Bytes.{small, dutiesIn, goodRuns, tableIn, parse}
 use Rattle.paper.specs.Rules.{readingOf}
 use Rattle.paper.proofs.Outcomes.{answered}
-use Rattle.records.specs.Formed.{Formed, tableOf}
+use Rattle.record_read.specs.Formed.{Formed, tableOf}
 
 pub table-one : (b : List ℕ) (rd rd′ : Reading) → Formed b rd → Formed b rd′ → tableOf b rd ≡ tableOf b rd′
 table-one b rd rd′ F G = here rd F ∙ sym (here rd′ G)

@@ -2,10 +2,10 @@
 use Prim.Native.Nat.{ℕ}
 use mathlib.Core.Path.{_≡_}
 use mathlib.Core.List.{List}
-use Rattle.paper_types.specs.declared.Reading.{Reading}
+use Rattle.paper.specs.declared.Reading.{Reading}
 use Rattle.paper.specs.Outcome.{answer}
 use Rattle.paper.specs.Rules.{judgeTable}
-use Rattle.records.specs.Formed.{Formed, tableOf}
+use Rattle.record_read.specs.Formed.{Formed, tableOf}
 
 pub record AcceptedAs (b : List ℕ) (rd : Reading) : Type 0 where
   pub formed : Formed b rd

@@ -1,10 +1,10 @@
 -- What bytes that were accepted give to those who ask on.
 use Prim.Native.Nat.{ℕ}
 use mathlib.Core.List.{List}
-use Rattle.paper_types.specs.declared.Reading.{Reading}
+use Rattle.paper.specs.declared.Reading.{Reading}
 use Rattle.paper.specs.Bytes.{small}
 use Rattle.paper.specs.Statements.{Ranged, Meets}
-use Rattle.records.specs.Formed.{Formed, tableOf}
+use Rattle.record_read.specs.Formed.{Formed, tableOf}
 
 -- they are in good form, and the table in them is in range and meets the rules
 pub record Ready (b : List ℕ) (rd : Reading) : Type 0 where

@@ -2,10 +2,10 @@
 use Prim.Native.Nat.{ℕ}
 use mathlib.Core.Path.{_≡_}
 use mathlib.Core.List.{List}
-use Rattle.paper_types.specs.declared.Reading.{Reading}
+use Rattle.paper.specs.declared.Reading.{Reading}
 use Rattle.paper.specs.Outcome.{judgedAs}
 use Rattle.paper.specs.Rules.{judged}
-use Rattle.records.specs.Formed.{Formed, tableOf}
+use Rattle.record_read.specs.Formed.{Formed, tableOf}
 use Rattle.table_tally.specs.Tally.{startsOf, endsOf}
 use Rattle.judge.specs.declared.Ruling.{Ruling}
 

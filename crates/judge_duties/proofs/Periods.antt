@@ -6,7 +6,7 @@ use mathlib.Core.List.{List, map}
 use lib.ListN.{length, drop, length-map, List·getD-map}
 use Rattle.laws.specs.Divisor.{gcd, gcdOf}
 use Rattle.laws.proofs.Divisor.{gcd-start, gcd-further, gcd-finished}
-use Rattle.paper_types.specs.declared.Duty.{Duty}
+use Rattle.paper.specs.declared.Duty.{Duty}
 use Rattle.paper.specs.Duties.{duty, dutyAt}
 use Rattle.paper.specs.Words.{blockLengthOf}
 

@@ -1,6 +1,6 @@
 -- The three ways in which a run may clash with an earlier one.
 use mathlib.Core.Bool.{Bool}
-use Rattle.paper_types.specs.declared.Run.{Run}
+use Rattle.paper.specs.declared.Run.{Run}
 use Rattle.paper.specs.Rules.{overlaps, joins, twice}
 use Rattle.judge_pairs.specs.declared.Clash.{Clash}
 use Rattle.judge_pairs.specs.declared.Clash.the-variants.{Overlap, Joint, Twice}

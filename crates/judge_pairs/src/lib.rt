@@ -3,14 +3,14 @@
 ghost use mathlib.Core.Path.{_≡_};
 ghost use Prim.Native.Nat.{_<_, _≤_};
 ghost use Rattle.paper.specs.Rules.{before, unordered, badOrder, meet, lowest};
-ghost use Rattle.records.specs.Formed.{Formed, tableOf};
+ghost use Rattle.record_read.specs.Formed.{Formed, tableOf};
 ghost use Rattle.laws.specs.Search.{any};
 ghost use Rattle.paper.specs.Words.{runAt, stop};
 ghost use Rattle.paper.specs.Bytes.{mostTicks};
 ghost use Rattle.judge_pairs.specs.Clash.{clashOf};
-use paper_types::Reading;
-use paper_types::Run;
-use records::run_of;
+use paper::Reading;
+use paper::Run;
+use record_read::run_of;
 
 // Whether x comes before y by row and first unit.
 fn is_before(x: Run, y: Run) -> bool

@@ -2,15 +2,15 @@
 ghost use mathlib.Core.Path.{_≡_};
 ghost use Rattle.paper.specs.Outcome.{answer, andThen, judgedAs};
 ghost use Rattle.paper.specs.Rules.{judgeRuns, readingOf};
-ghost use Rattle.records.specs.Formed.{Formed, tableOf};
+ghost use Rattle.record_read.specs.Formed.{Formed, tableOf};
 ghost use Rattle.table_tally.specs.Tally.{unitsIn};
 use judge_duties::bad_sum;
 use judge_pairs::Clash;
 use judge_pairs::bad_order;
 use judge_pairs::lowest_clash;
-use paper_types::Fault;
-use paper_types::Judged;
-use paper_types::Reading;
+use paper::Fault;
+use paper::Judged;
+use paper::Reading;
 
 // 13 to 17, of the runs of bytes in good form, whose duties have these units: the lowest fault, or the reading.
 pub fn judge_runs(b: &[u8], rd: Reading, units: &[u32; 64]) -> Judged

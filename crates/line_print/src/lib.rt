@@ -8,8 +8,8 @@ ghost use Rattle.paper.specs.Text.{printLine, refusedWord};
 ghost use Rattle.paper.specs.Outcome.{Puts};
 ghost use Rattle.number_print.specs.Spaced.{spaced};
 use number_print::print_number;
-use paper_types::Refusal;
-use records::put_bytes;
+use paper::Refusal;
+use record_write::put_bytes;
 
 // Each number after a space.
 fn print_numbers(out: &mut [u8], numbers: &[u64]) -> usize

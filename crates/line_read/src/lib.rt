@@ -9,7 +9,7 @@ ghost use Rattle.paper.specs.Text.{isDash, engineLineGood, enginesRead, dutyLin
 ghost use Rattle.line_read.specs.Line.{firstGood, lineGood};
 use number_read::is_number;
 use number_read::value_of;
-use paper_types::Duty;
+use paper::Duty;
 
 // The first place of a byte, or the length where it is not there.
 pub fn find(b: &[u8], x: u8) -> usize

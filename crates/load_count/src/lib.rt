@@ -7,10 +7,10 @@ ghost use Rattle.load_count.specs.ByRuns.{loadsBy, countBy};
 use carried_over::carried;
 use judge::refusal_of;
 use judge::rule_on;
-use paper_types::Counted;
-use paper_types::Judged;
-use paper_types::Reading;
-use paper_types::Refusal;
+use paper::Counted;
+use paper::Judged;
+use paper::Reading;
+use paper::Refusal;
 
 const MOST_BLOCKS: u64 = 1000000000000;
 

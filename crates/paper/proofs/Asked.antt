@@ -7,13 +7,13 @@ use mathlib.Core.List.{List}
 use native.Mathlib.Omega.{arith}
 use borrow.Author.Tests.{lt-ltb, le-ltb, ne-eqb}
 use Rattle.laws.proofs.Lists.{same-list-refl, same-list-not}
-use Rattle.paper_types.specs.declared.Engine.{Engine}
+use Rattle.paper.specs.declared.Engine.{Engine}
 use Rattle.paper.specs.Words.{Table}
 use Rattle.paper.specs.Rotation.{link, rowAt}
 use Rattle.paper.specs.Walk.{loads}
 use Rattle.paper.specs.Outcome.{Outcome, refused, answer, andThen}
 use Rattle.paper.specs.Rules.{accepted}
-use Rattle.paper_types.specs.declared.State.{State}
+use Rattle.paper.specs.declared.State.{State}
 use Rattle.paper.specs.Answers.{replyOf, rowsAt, stateAt, mostBlocks, question, start, rowTold, advanced, counted}
 
 -- the state after n boundaries more

@@ -13,7 +13,7 @@ use Rattle.laws.specs.Divisor.{gcd, gcdOf, euclid}
 use Rattle.laws.specs.Lists.{tab, flat, sumOf}
 use Rattle.laws.specs.Digits.{digits}
 use Rattle.laws.proofs.Each.{Each, each-at}
-use Rattle.paper_types.specs.declared.Run.{Run}
+use Rattle.paper.specs.declared.Run.{Run}
 use Rattle.paper.specs.Duties.{same}
 use Rattle.paper.specs.Words.{run, Table, covers, heldIn, whole, slice, blockLengthOf}
 use Rattle.paper.specs.Sa1.{sa1, lay, layOne, rowAfter, unitAfter}

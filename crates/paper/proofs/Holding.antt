@@ -14,10 +14,10 @@ use lib.Seq.{drop-cons}
 use borrow.Author.Tests.{eqb-true, leb-true, ltb-true, eq-eqb, le-leb, lt-ltb}
 use Rattle.laws.specs.Search.{first}
 use Rattle.laws.proofs.Cases.{by-cases, by-order, not-both, and-left, and-right, eqb-sym}
-use Rattle.paper_types.specs.declared.Row.{Row}
-use Rattle.paper_types.specs.declared.Run.{Run}
-use Rattle.paper_types.specs.declared.Held.{Held}
-use Rattle.paper_types.specs.declared.Held.the-variants.{Idle, By}
+use Rattle.paper.specs.declared.Row.{Row}
+use Rattle.paper.specs.declared.Run.{Run}
+use Rattle.paper.specs.declared.Held.{Held}
+use Rattle.paper.specs.declared.Held.the-variants.{Idle, By}
 use Rattle.paper.specs.Duties.{same}
 use Rattle.paper.specs.Words.{run, stop, covers, runAt, heldIn}
 use Rattle.paper.specs.Statements.{Has, Apart}

@@ -15,9 +15,9 @@ use Rattle.laws.specs.Choice.{one-if}
 use Rattle.laws.specs.Sum.{sumTo}
 use Rattle.laws.proofs.Cases.{by-cases}
 use Rattle.laws.proofs.Sum.{sum-ext, sum-suc, sum-none, sum-one, sum-first, sum-plus, sum-swap, sum-blocks}
-use Rattle.paper_types.specs.declared.Engine.{Engine}
-use Rattle.paper_types.specs.declared.Held.{Held}
-use Rattle.paper_types.specs.declared.Held.the-variants.{Idle, By}
+use Rattle.paper.specs.declared.Engine.{Engine}
+use Rattle.paper.specs.declared.Held.{Held}
+use Rattle.paper.specs.declared.Held.the-variants.{Idle, By}
 use Rattle.paper.specs.Duties.{engine, same, busy}
 use Rattle.paper.specs.Words.{row, Table, heldIn}
 use Rattle.paper.specs.Rotation.{link, nextOf, rowAt}

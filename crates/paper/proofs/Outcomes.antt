@@ -9,9 +9,9 @@ use native.Mathlib.Omega.{arith}
 use lib.ListN.{length}
 use Rattle.laws.specs.Choice.{pick}
 use Rattle.laws.specs.Lists.{over}
-use Rattle.paper_types.specs.declared.Refusal.{Refusal}
-use Rattle.paper_types.specs.declared.Written.{Written}
-use Rattle.paper_types.specs.declared.Written.the-variants.{Length, Refused}
+use Rattle.paper.specs.declared.Refusal.{Refusal}
+use Rattle.paper.specs.declared.Written.{Written}
+use Rattle.paper.specs.declared.Written.the-variants.{Length, Refused}
 use Rattle.paper.specs.Outcome.{Outcome, refused, answer, andThen, refusedAs, leaves, Writes}
 
 -- an answer is no refusal

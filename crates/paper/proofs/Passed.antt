@@ -10,7 +10,7 @@ use borrow.Author.Tests.{le-leb, leb-true, ltb-true, eqb-true}
 use Rattle.laws.specs.Digits.{numAt}
 use Rattle.laws.proofs.Cases.{and-left, and-right, and-both}
 use Rattle.laws.proofs.Decides.{Decides}
-use Rattle.paper_types.specs.declared.Duty.{Duty}
+use Rattle.paper.specs.declared.Duty.{Duty}
 use Rattle.paper.specs.Duties.{dutyAt}
 use Rattle.paper.specs.Words.{stop}
 use Rattle.paper.specs.Bytes.{Width, mostTicks, within, headLength, dutyLength, runLength, endLength, stands, ticksIn, enginesIn, dutiesIn, dutyIn, dutyRanged, runIn, headGood, dutyGood, runGood, endGood}

@@ -12,7 +12,7 @@ use native.Mathlib.Omega.{arith}
 use Rattle.laws.specs.Sum.{sumTo}
 use Rattle.laws.proofs.Cases.{by-cases, lt-or-le, by-order, not-both}
 use Rattle.laws.proofs.Sum.{sum-suc, sum-none}
-use Rattle.paper_types.specs.declared.Engine.{Engine}
+use Rattle.paper.specs.declared.Engine.{Engine}
 use Rattle.paper.specs.Duties.{engine}
 use Rattle.paper.specs.Words.{row}
 use Rattle.paper.specs.Rotation.{firstOf, nextOf, rowAt}

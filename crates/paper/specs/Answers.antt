@@ -6,17 +6,17 @@ use mathlib.Core.List.{List}
 use lib.Dec.{ltb, eqb}
 use Rattle.laws.specs.Choice.{pick}
 use Rattle.laws.specs.Lists.{tab, same-list}
-use Rattle.paper_types.specs.declared.Row.{Row}
-use Rattle.paper_types.specs.declared.Engine.{Engine}
-use Rattle.paper_types.specs.declared.Reply.{Reply}
-use Rattle.paper_types.specs.declared.Answer.{Answer}
-use Rattle.paper_types.specs.declared.Answer.the-variants.{Replies, Refused as NoReply}
-use Rattle.paper_types.specs.declared.State.{State}
-use Rattle.paper_types.specs.declared.Dispatched.{Dispatched}
-use Rattle.paper_types.specs.declared.RowTold.{RowTold}
-use Rattle.paper_types.specs.declared.RowTold.the-variants.{At, Refused as NoRow}
-use Rattle.paper_types.specs.declared.Counted.{Counted}
-use Rattle.paper_types.specs.declared.Counted.the-variants.{Loads, Refused as NoCount}
+use Rattle.paper.specs.declared.Row.{Row}
+use Rattle.paper.specs.declared.Engine.{Engine}
+use Rattle.paper.specs.declared.Reply.{Reply}
+use Rattle.paper.specs.declared.Answer.{Answer}
+use Rattle.paper.specs.declared.Answer.the-variants.{Replies, Refused as NoReply}
+use Rattle.paper.specs.declared.State.{State}
+use Rattle.paper.specs.declared.Dispatched.{Dispatched}
+use Rattle.paper.specs.declared.RowTold.{RowTold}
+use Rattle.paper.specs.declared.RowTold.the-variants.{At, Refused as NoRow}
+use Rattle.paper.specs.declared.Counted.{Counted}
+use Rattle.paper.specs.declared.Counted.the-variants.{Loads, Refused as NoCount}
 use Rattle.paper.specs.Duties.{engine}
 use Rattle.paper.specs.Words.{Table}
 use Rattle.paper.specs.Rotation.{link, rowAt}

@@ -8,8 +8,8 @@ use Rattle.laws.specs.Choice.{pick}
 use Rattle.laws.specs.Search.{first}
 use Rattle.laws.specs.Lists.{tab, flat}
 use Rattle.laws.specs.Digits.{digits, numAt}
-use Rattle.paper_types.specs.declared.Duty.{Duty}
-use Rattle.paper_types.specs.declared.Run.{Run}
+use Rattle.paper.specs.declared.Duty.{Duty}
+use Rattle.paper.specs.declared.Run.{Run}
 use Rattle.paper.specs.Duties.{duty}
 use Rattle.paper.specs.Words.{run, stop, Table}
 use Rattle.paper.specs.Outcome.{Outcome, refused, answer}

@@ -6,11 +6,11 @@ use lib.Dec.{ltb}
 use lib.ListN.{length, getD}
 use Rattle.laws.specs.Choice.{pick}
 use Rattle.laws.specs.Lists.{tab}
-use Rattle.paper_types.specs.declared.Held.{Held}
-use Rattle.paper_types.specs.declared.Held.the-variants.{Idle, By}
-use Rattle.paper_types.specs.declared.Reading.{Reading}
-use Rattle.paper_types.specs.declared.Reply.{Reply}
-use Rattle.paper_types.specs.declared.State.{State}
+use Rattle.paper.specs.declared.Held.{Held}
+use Rattle.paper.specs.declared.Held.the-variants.{Idle, By}
+use Rattle.paper.specs.declared.Reading.{Reading}
+use Rattle.paper.specs.declared.Reply.{Reply}
+use Rattle.paper.specs.declared.State.{State}
 use Rattle.paper.specs.Duties.{engine}
 use Rattle.paper.specs.Outcome.{Outcome, refused, answer, andThen, leaves}
 use Rattle.paper.specs.Bytes.{small}

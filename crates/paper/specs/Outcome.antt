@@ -5,16 +5,16 @@ use mathlib.Core.Path.{_≡_}
 use mathlib.Core.List.{List}
 use lib.ListN.{length}
 use Rattle.laws.specs.Lists.{over}
-use Rattle.paper_types.specs.declared.Refusal.{Refusal}
-use Rattle.paper_types.specs.declared.Written.{Written}
-use Rattle.paper_types.specs.declared.Written.the-variants.{Length, Refused as NotWritten}
-use Rattle.paper_types.specs.declared.Verdict.{Verdict}
-use Rattle.paper_types.specs.declared.Verdict.the-variants.{Done, Refused as NotDone}
-use Rattle.paper_types.specs.declared.Fault.{Fault}
-use Rattle.paper_types.specs.declared.Fault.the-variants.{Form, BlockLength, Slice, Order, Overlap, Joint, Twice, Service}
-use Rattle.paper_types.specs.declared.Reading.{Reading}
-use Rattle.paper_types.specs.declared.Judged.{Judged}
-use Rattle.paper_types.specs.declared.Judged.the-variants.{Accepted, Bad}
+use Rattle.paper.specs.declared.Refusal.{Refusal}
+use Rattle.paper.specs.declared.Written.{Written}
+use Rattle.paper.specs.declared.Written.the-variants.{Length, Refused as NotWritten}
+use Rattle.paper.specs.declared.Verdict.{Verdict}
+use Rattle.paper.specs.declared.Verdict.the-variants.{Done, Refused as NotDone}
+use Rattle.paper.specs.declared.Fault.{Fault}
+use Rattle.paper.specs.declared.Fault.the-variants.{Form, BlockLength, Slice, Order, Overlap, Joint, Twice, Service}
+use Rattle.paper.specs.declared.Reading.{Reading}
+use Rattle.paper.specs.declared.Judged.{Judged}
+use Rattle.paper.specs.declared.Judged.the-variants.{Accepted, Bad}
 
 pub data Outcome (A : Type 0) : Type 0 where
   refused : ℕ → ℕ → Outcome A

@@ -5,8 +5,8 @@ use mathlib.Core.List.{List, [], _∷_, _++_}
 use lib.Dec.{eqb}
 use Rattle.laws.specs.Choice.{pick, one-if}
 use Rattle.laws.specs.Sum.{sumTo}
-use Rattle.paper_types.specs.declared.Row.{Row}
-use Rattle.paper_types.specs.declared.Engine.{Engine}
+use Rattle.paper.specs.declared.Row.{Row}
+use Rattle.paper.specs.declared.Engine.{Engine}
 use Rattle.paper.specs.Duties.{engine, same}
 use Rattle.paper.specs.Words.{row, Table, heldIn}
 

@@ -6,8 +6,8 @@ use lib.Dec.{ltb, eqb}
 use lib.ListN.{length}
 use Rattle.laws.specs.Choice.{pick}
 use Rattle.laws.specs.Search.{first, any}
-use Rattle.paper_types.specs.declared.Run.{Run}
-use Rattle.paper_types.specs.declared.Reading.{Reading}
+use Rattle.paper.specs.declared.Run.{Run}
+use Rattle.paper.specs.declared.Reading.{Reading}
 use Rattle.paper.specs.Duties.{dutyAt}
 use Rattle.paper.specs.Words.{stop, slice, blockLengthOf, Table, runAt}
 use Rattle.paper.specs.Outcome.{Outcome, refused, answer, andThen}

@@ -3,8 +3,8 @@ use Prim.Native.Nat.{ℕ, _+_, _-_}
 use mathlib.Core.List.{List, [], _∷_, _++_, map}
 use lib.Dec.{leb, ltb}
 use Rattle.laws.specs.Choice.{pick}
-use Rattle.paper_types.specs.declared.Duty.{Duty}
-use Rattle.paper_types.specs.declared.Run.{Run}
+use Rattle.paper.specs.declared.Duty.{Duty}
+use Rattle.paper.specs.declared.Run.{Run}
 use Rattle.paper.specs.Words.{run, slice, Table}
 
 -- "A duty gets N units from there. If they reach exactly the end of the row it has one run .. If they go past the end, the duty is split:

@@ -7,11 +7,11 @@ use lib.ListN.{length, getD, take, drop}
 use Rattle.laws.specs.Choice.{pick}
 use Rattle.laws.specs.Search.{first}
 use Rattle.laws.specs.Lists.{tab, flat, same-list}
-use Rattle.paper_types.specs.declared.Duty.{Duty}
-use Rattle.paper_types.specs.declared.Run.{Run}
-use Rattle.paper_types.specs.declared.Verdict.the-variants.{Done, Refused}
-use Rattle.paper_types.specs.declared.Input.{Input}
-use Rattle.paper_types.specs.declared.InputRead.{InputRead}
+use Rattle.paper.specs.declared.Duty.{Duty}
+use Rattle.paper.specs.declared.Run.{Run}
+use Rattle.paper.specs.declared.Verdict.the-variants.{Done, Refused}
+use Rattle.paper.specs.declared.Input.{Input}
+use Rattle.paper.specs.declared.InputRead.{InputRead}
 use Rattle.paper.specs.Duties.{duty, dutyAt}
 use Rattle.paper.specs.Words.{Table}
 use Rattle.paper.specs.Rotation.{Chain, chains}

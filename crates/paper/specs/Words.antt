@@ -7,11 +7,11 @@ use lib.Dec.{leb, ltb, eqb}
 use lib.ListN.{getD}
 use Rattle.laws.specs.Choice.{pick}
 use Rattle.laws.specs.Divisor.{gcdOf}
-use Rattle.paper_types.specs.declared.Row.{Row}
-use Rattle.paper_types.specs.declared.Duty.{Duty}
-use Rattle.paper_types.specs.declared.Run.{Run}
-use Rattle.paper_types.specs.declared.Held.{Held}
-use Rattle.paper_types.specs.declared.Held.the-variants.{Idle, By}
+use Rattle.paper.specs.declared.Row.{Row}
+use Rattle.paper.specs.declared.Duty.{Duty}
+use Rattle.paper.specs.declared.Run.{Run}
+use Rattle.paper.specs.declared.Held.{Held}
+use Rattle.paper.specs.declared.Held.the-variants.{Idle, By}
 use Rattle.paper.specs.Duties.{periodsOf}
 
 -- the row of a number

@@ -6,9 +6,9 @@ use mathlib.Core.Path.{_≡_, sym, ap, _∙_}
 use mathlib.Core.List.{List}
 use native.Mathlib.Omega.{arith}
 use lib.ListN.{length, take}
-use Rattle.paper_types.specs.declared.Refusal.{Refusal}
-use Rattle.paper_types.specs.declared.Written.{Written}
-use Rattle.paper_types.specs.declared.Written.the-variants.{Length, Refused}
+use Rattle.paper.specs.declared.Refusal.{Refusal}
+use Rattle.paper.specs.declared.Written.{Written}
+use Rattle.paper.specs.declared.Written.the-variants.{Length, Refused}
 use Rattle.paper.specs.Outcome.{answer, refusedAs, writtenAs, leaves, Writes}
 use Rattle.paper.specs.Bytes.{small, encode}
 use Rattle.paper.specs.Wanted.{Wanted}

@@ -3,8 +3,8 @@
 use Prim.Native.Nat.{ℕ}
 use mathlib.Core.Path.{_≡_, sym, ap, subst, _∙_}
 use mathlib.Core.List.{List}
-use Rattle.paper_types.specs.declared.InputRead.{InputRead}
-use Rattle.paper_types.specs.declared.Verdict.{Verdict}
+use Rattle.paper.specs.declared.InputRead.{InputRead}
+use Rattle.paper.specs.declared.Verdict.{Verdict}
 use Rattle.paper.specs.Outcome.{andThen, verdictAs, Puts}
 use Rattle.paper.specs.Builder.{plan}
 use Rattle.paper.specs.Text.{input, inputRead, program, printed}

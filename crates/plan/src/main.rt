@@ -10,10 +10,10 @@ use builder::build;
 use judge::refusal_of;
 use judge::rule_on;
 use line_print::print_refused;
-use paper_types::Input;
-use paper_types::Judged;
-use paper_types::Verdict;
-use paper_types::Written;
+use paper::Input;
+use paper::Judged;
+use paper::Verdict;
+use paper::Written;
 use plan_input::read_input;
 use plan_text::print_text;
 

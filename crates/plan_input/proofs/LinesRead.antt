@@ -12,8 +12,8 @@ use lib.Seq.{drop-drop, getD-append-seam}
 use Rattle.laws.proofs.Cases.{lt-or-le}
 use Rattle.laws.proofs.Lists.{set-tab}
 use Rattle.laws.proofs.Writing.{length-lent}
-use Rattle.paper_types.specs.declared.Duty.{Duty}
-use Rattle.paper_types.specs.declared.Verdict.the-variants.{Done}
+use Rattle.paper.specs.declared.Duty.{Duty}
+use Rattle.paper.specs.declared.Verdict.the-variants.{Done}
 use Rattle.paper.specs.Duties.{servicesOf, periodsOf}
 use Rattle.paper.specs.Outcome.{Outcome, refused, answer, andThen}
 use Rattle.paper.specs.Text.{linesOf, dutyRead, dutiesFrom, roomy, inputRead}

@@ -13,8 +13,8 @@ use Rattle.laws.specs.Choice.{pick}
 use Rattle.laws.specs.Lists.{tab}
 use Rattle.laws.proofs.Cases.{and-right}
 use Rattle.laws.proofs.Lists.{length-tab, getD-tab, tab-ext, tab-getD, tab-take}
-use Rattle.paper_types.specs.declared.Duty.{Duty}
-use Rattle.paper_types.specs.declared.InputRead.{InputRead}
+use Rattle.paper.specs.declared.Duty.{Duty}
+use Rattle.paper.specs.declared.InputRead.{InputRead}
 use Rattle.paper.specs.Outcome.{Outcome, refused, answer, andThen, verdictAs}
 use Rattle.paper.specs.Wanted.{Wanted, wantedOf}
 use Rattle.paper.specs.Text.{Lines, none, line, linesOf, dutyLineGood, dutyRead, dutiesFrom, engineLineGood, enginesRead, inputOf, mostInput, input, roomy, inputRead}

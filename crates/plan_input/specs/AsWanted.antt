@@ -2,8 +2,8 @@
 use Prim.Native.Nat.{ℕ, _≤_}
 use mathlib.Core.List.{List}
 use lib.ListN.{length, take}
-use Rattle.paper_types.specs.declared.Duty.{Duty}
-use Rattle.paper_types.specs.declared.Input.{Input}
+use Rattle.paper.specs.declared.Duty.{Duty}
+use Rattle.paper.specs.declared.Input.{Input}
 use Rattle.paper.specs.Outcome.{Outcome, answer, andThen}
 use Rattle.paper.specs.Wanted.{Wanted, wanted, wantedOf}
 

@@ -9,10 +9,10 @@ use line_read::engines_read;
 use line_read::find;
 use line_read::first_line_good;
 use line_read::line_good;
-use paper_types::Input;
-use paper_types::InputRead;
-use paper_types::Refusal;
-use paper_types::Verdict;
+use paper::Input;
+use paper::InputRead;
+use paper::Refusal;
+use paper::Verdict;
 
 // Refusal 9 at a line.
 fn faulty(line: usize) -> InputRead

@@ -19,8 +19,8 @@ use Rattle.laws.proofs.Cases.{by-cases, lt-or-le, both-ways}
 use Rattle.laws.proofs.Each.{Each, each-at}
 use Rattle.laws.proofs.Decides.{spans, spans-decides, spans-not}
 use Rattle.laws.proofs.Sum.{sum-ext, sum-swap, sum-blocks, count-once, count-stretch}
-use Rattle.paper_types.specs.declared.Held.{Held}
-use Rattle.paper_types.specs.declared.Held.the-variants.{Idle, By}
+use Rattle.paper.specs.declared.Held.{Held}
+use Rattle.paper.specs.declared.Held.the-variants.{Idle, By}
 use Rattle.paper.specs.Duties.{same}
 use Rattle.paper.specs.Words.{row, run, covers, heldIn}
 use Rattle.paper.specs.Sa1.{lay}

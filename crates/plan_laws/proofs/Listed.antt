@@ -14,14 +14,14 @@ use Rattle.laws.specs.Choice.{pick}
 use Rattle.laws.specs.Lists.{same-list, sumOf}
 use Rattle.laws.proofs.Search.{first-le}
 use Rattle.laws.proofs.Cases.{and-right}
-use Rattle.paper_types.specs.declared.Engine.{Engine}
-use Rattle.paper_types.specs.declared.Duty.{Duty}
+use Rattle.paper.specs.declared.Engine.{Engine}
+use Rattle.paper.specs.declared.Duty.{Duty}
 use Rattle.paper.specs.Words.{Table, blockLengthOf}
 use Rattle.paper.specs.Outcome.{Outcome, refused, answer, andThen, mostPlace}
 use Rattle.paper.specs.Bytes.{small, encode, runPlace, endLength, dutyPlace, dutiesIn, headGood, endGood, runGood, badDuty, goodRuns, tableIn, afterRuns, afterHead, parse}
 use Rattle.paper.specs.Wanted.{Wanted, wantedOf, dutySet, taken}
 use Rattle.paper.specs.Builder.{badSlice, planAt, plan, fitted, build}
-use Rattle.paper_types.specs.declared.State.{State}
+use Rattle.paper.specs.declared.State.{State}
 use Rattle.paper.specs.Answers.{rowsAt, stateAt, mostBlocks, question, start, rowTold, advanced, counted}
 use Rattle.paper.specs.Walk.{loads}
 use Rattle.paper.specs.Sa1.{slices}

@@ -12,7 +12,7 @@ use Rattle.laws.specs.Choice.{pick}
 use Rattle.laws.specs.Lists.{sumOf}
 use Rattle.laws.proofs.Cases.{by-cases}
 use Rattle.laws.proofs.Decides.{Decides, Lowest, lowest-found, found-lowest}
-use Rattle.paper_types.specs.declared.Duty.{Duty}
+use Rattle.paper.specs.declared.Duty.{Duty}
 use Rattle.paper.specs.Duties.{dutyAt}
 use Rattle.paper.specs.Words.{blockLengthOf, whole, Table}
 use Rattle.paper.specs.Sa1.{slices, sa1}

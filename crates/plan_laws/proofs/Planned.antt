@@ -12,7 +12,7 @@ use lib.ListN.{length, getD}
 use borrow.Author.Tests.{lt-ltb, le-ltb, ltb-true, ltb-false}
 use Rattle.laws.proofs.Cases.{by-cases}
 use Rattle.laws.proofs.Lists.{length-tab, map-tab, tab-getD}
-use Rattle.paper_types.specs.declared.Duty.{Duty}
+use Rattle.paper.specs.declared.Duty.{Duty}
 use Rattle.paper.specs.Duties.{duty, servicesOf, periodsOf}
 use Rattle.paper.specs.Words.{blockLengthOf, Table}
 use Rattle.paper.specs.Sa1.{sa1}

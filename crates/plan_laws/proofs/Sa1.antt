@@ -13,7 +13,7 @@ use borrow.Author.Tests.{ltb-true, ltb-false, leb-true, leb-false}
 use Rattle.laws.specs.Lists.{sumOf}
 use Rattle.laws.proofs.Cases.{by-cases}
 use Rattle.laws.proofs.Each.{Each, Pairs, each-map}
-use Rattle.paper_types.specs.declared.Run.{Run}
+use Rattle.paper.specs.declared.Run.{Run}
 use Rattle.paper.specs.Words.{run, stop}
 use Rattle.paper.specs.Sa1.{lay, layOne, rowAfter, unitAfter}
 

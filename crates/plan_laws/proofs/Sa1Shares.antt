@@ -17,7 +17,7 @@ use Rattle.laws.specs.Sum.{sumTo}
 use Rattle.laws.proofs.Cases.{by-cases}
 use Rattle.laws.proofs.Sum.{sum-le, sum-plus, sum-const, sum-zero, sum-only}
 use Rattle.laws.proofs.Each.{Each, each-at, each-map}
-use Rattle.paper_types.specs.declared.Run.{Run}
+use Rattle.paper.specs.declared.Run.{Run}
 use Rattle.paper.specs.Sa1.{lay}
 use Rattle.paper.specs.Rules.{unitsOf}
 use Rattle.plan_laws.proofs.Sa1.{Slice, Of, lay-cases, laid-between, few-runs}

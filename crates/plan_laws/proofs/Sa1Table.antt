@@ -14,8 +14,8 @@ use Rattle.laws.specs.Sum.{sumTo}
 use Rattle.laws.specs.Lists.{sumOf}
 use Rattle.laws.proofs.Cases.{by-order}
 use Rattle.laws.proofs.Each.{Each, each-at, at-each, each-of-map, pairs-at}
-use Rattle.paper_types.specs.declared.Duty.{Duty}
-use Rattle.paper_types.specs.declared.Run.{Run}
+use Rattle.paper.specs.declared.Duty.{Duty}
+use Rattle.paper.specs.declared.Run.{Run}
 use Rattle.paper.specs.Duties.{duty, dutyAt}
 use Rattle.paper.specs.Words.{run, stop, slice, blockLengthOf, runAt}
 use Rattle.paper.specs.Sa1.{lay, slices, sa1}

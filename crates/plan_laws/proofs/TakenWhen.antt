@@ -11,7 +11,7 @@ use borrow.Author.Tests.{lt-ltb, eqb-true, eq-eqb, eqb-false, ne-eqb}
 use Rattle.laws.specs.Choice.{pick}
 use Rattle.laws.proofs.Cases.{by-cases}
 use Rattle.laws.proofs.Decides.{Decides, Not, Lowest, fails, failed, lowest-found, found-lowest, none-found}
-use Rattle.paper_types.specs.declared.Duty.{Duty}
+use Rattle.paper.specs.declared.Duty.{Duty}
 use Rattle.paper.specs.Duties.{dutyAt}
 use Rattle.paper.specs.Outcome.{Outcome, refused, answer}
 use Rattle.paper.specs.Bytes.{small, mostTicks, within, dutyRanged}

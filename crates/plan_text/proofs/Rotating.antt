@@ -6,7 +6,7 @@ use mathlib.Core.Path.{_≡_, sym, subst, _∙_}
 use mathlib.Core.List.{List, _++_, append-assoc}
 use native.Mathlib.Omega.{arith}
 use Rattle.laws.specs.Lists.{flat}
-use Rattle.paper_types.specs.declared.Reading.{Reading}
+use Rattle.paper.specs.declared.Reading.{Reading}
 use Rattle.paper.specs.Bytes.{small}
 use Rattle.paper.specs.Rotation.{link, firstOf, chains}
 use Rattle.paper.specs.Walk.{loads}
@@ -14,8 +14,8 @@ use Rattle.paper.specs.Text.{planLine, chainLine, loadsLine, planText}
 use Rattle.paper.proofs.Links.{closed, rows-end}
 use Rattle.paper.proofs.Loads.{later-is}
 use Rattle.walk_laws.proofs.Starts.{laid, loads-runs}
-use Rattle.records.specs.Formed.{tableOf}
-use Rattle.records.proofs.Table.{table-engines, table-runs}
+use Rattle.record_read.specs.Formed.{tableOf}
+use Rattle.record_read.proofs.Table.{table-engines, table-runs}
 use Rattle.table_tally.specs.Tally.{startsOf, endsOf}
 use Rattle.judge.specs.Ready.{Ready}
 use Rattle.row_edges.specs.Links.{linkOf}

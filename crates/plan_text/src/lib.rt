@@ -5,17 +5,17 @@ ghost use lib.ListN.{length};
 ghost use Rattle.paper.specs.Text.{planText, textFor};
 ghost use Rattle.paper.specs.Outcome.{Puts, Writes};
 ghost use Rattle.paper.specs.Builder.{fitted};
-ghost use Rattle.records.specs.Formed.{tableOf};
+ghost use Rattle.record_read.specs.Formed.{tableOf};
 ghost use Rattle.table_tally.specs.Tally.{startsOf, endsOf};
 ghost use Rattle.judge.specs.Ready.{Ready};
 use chain_lines::print_rotation;
 use judge::refusal_of;
 use judge::rule_on;
-use paper_types::Judged;
-use paper_types::Reading;
-use paper_types::Refusal;
-use paper_types::Written;
-use records::put_bytes;
+use paper::Judged;
+use paper::Reading;
+use paper::Refusal;
+use paper::Written;
+use record_write::put_bytes;
 use table_lines::print_table;
 
 // The text of a plan whose bytes are in good form and meet the rules, by what holds the first and the last unit of each row.

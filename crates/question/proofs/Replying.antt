@@ -6,18 +6,18 @@ use mathlib.Core.Bool.{true}
 use mathlib.Core.List.{List}
 use lib.Dec.{ltb}
 use borrow.Author.Tests.{lt-ltb, le-ltb}
-use Rattle.paper_types.specs.declared.Row.{Row}
-use Rattle.paper_types.specs.declared.Engine.{Engine}
-use Rattle.paper_types.specs.declared.Held.{Held}
-use Rattle.paper_types.specs.declared.Reading.{Reading}
+use Rattle.paper.specs.declared.Row.{Row}
+use Rattle.paper.specs.declared.Engine.{Engine}
+use Rattle.paper.specs.declared.Held.{Held}
+use Rattle.paper.specs.declared.Reading.{Reading}
 use Rattle.paper.specs.Words.{Table, heldIn}
 use Rattle.paper.specs.Rotation.{link, rowAt}
 use Rattle.paper.specs.Walk.{walk}
 use Rattle.paper.specs.Outcome.{Outcome, refused, answer}
-use Rattle.paper_types.specs.declared.Reply.{Reply}
+use Rattle.paper.specs.declared.Reply.{Reply}
 use Rattle.paper.specs.Answers.{ofEngine, replyOf}
-use Rattle.records.specs.Formed.{Formed, tableOf}
-use Rattle.records.proofs.Table.{table-ticks, table-engines}
+use Rattle.record_read.specs.Formed.{Formed, tableOf}
+use Rattle.record_read.proofs.Table.{table-ticks, table-engines}
 use Rattle.table_tally.specs.Tally.{startsOf, endsOf}
 use Rattle.row_edges.specs.Links.{linkOf}
 use Rattle.table_tally.proofs.Linked.{link-read}

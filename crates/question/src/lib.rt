@@ -3,16 +3,16 @@
 ghost use mathlib.Core.Path.{_≡_};
 ghost use Rattle.paper.specs.Outcome.{answer};
 ghost use Rattle.paper.specs.Answers.{ofEngine, replyOf, question, answerAs};
-ghost use Rattle.records.specs.Formed.{Formed, tableOf};
+ghost use Rattle.record_read.specs.Formed.{Formed, tableOf};
 ghost use Rattle.table_tally.specs.Tally.{startsOf, endsOf};
 use judge::refusal_of;
 use judge::rule_on;
-use paper_types::Answer;
-use paper_types::Engine;
-use paper_types::Judged;
-use paper_types::Reading;
-use paper_types::Refusal;
-use paper_types::Reply;
+use paper::Answer;
+use paper::Engine;
+use paper::Judged;
+use paper::Reading;
+use paper::Refusal;
+use paper::Reply;
 use rotation::row_in;
 use unit_holder::held;
 

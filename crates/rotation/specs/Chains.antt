@@ -2,7 +2,7 @@
 use Prim.Native.Nat.{ℕ, _+_, _-_, _%_, _≤_}
 use mathlib.Core.Path.{_≡_}
 use mathlib.Core.Bool.{Bool, false}
-use Rattle.paper_types.specs.declared.Row.{Row}
+use Rattle.paper.specs.declared.Row.{Row}
 use Rattle.paper.specs.Words.{row}
 use Rattle.paper.specs.Rotation.{firstOf}
 

@@ -5,8 +5,8 @@ ghost use Prim.Native.Nat.{_≤_};
 ghost use Rattle.paper.specs.Rotation.{firstOf, rowAt};
 ghost use Rattle.row_edges.specs.Links.{linkOf};
 ghost use Rattle.rotation.specs.Chains.{IsLast, round};
-use paper_types::Engine;
-use paper_types::Row;
+use paper::Engine;
+use paper::Row;
 use row_edges::linked;
 
 // The first row of a row's chain: down along the links.

@@ -3,7 +3,7 @@
 ghost use mathlib.Core.Path.{_≡_};
 ghost use Prim.Native.Nat.{_<_};
 ghost use Rattle.row_edges.specs.Links.{sameCode, linkOf};
-use paper_types::Row;
+use paper::Row;
 
 // Whether one duty holds both, of two edges.
 pub fn same_duty(g: u32, h: u32) -> bool

@@ -7,7 +7,7 @@ use lib.ListN.{length}
 use borrow.Author.Tests.{le-leb, lt-leb}
 use Rattle.laws.specs.Lists.{flat}
 use Rattle.laws.proofs.Lists.{length-flat}
-use Rattle.paper_types.specs.declared.Run.{Run}
+use Rattle.paper.specs.declared.Run.{Run}
 use Rattle.paper.specs.Words.{run}
 use Rattle.paper.specs.Sa1.{layOne}
 use Rattle.paper.specs.Bytes.{small, runBytes, runLength}

@@ -3,7 +3,7 @@ use Prim.Native.Nat.{ℕ, _+_}
 use mathlib.Core.List.{List}
 use lib.Dec.{leb}
 use Rattle.laws.specs.Choice.{pick}
-use Rattle.paper_types.specs.declared.Run.{Run}
+use Rattle.paper.specs.declared.Run.{Run}
 use Rattle.paper.specs.Words.{row}
 use Rattle.paper.specs.Sa1.{layOne, lay, rowAfter, unitAfter}
 use Rattle.sa1_runs.specs.declared.Place.{Place}

@@ -7,9 +7,9 @@ ghost use Rattle.paper.specs.Bytes.{small, mostTicks};
 ghost use Rattle.sa1_runs.specs.Laying.{placeAfter, laidAt, runsAt};
 ghost use Rattle.laws.specs.Lists.{over};
 ghost use Rattle.sa1_runs.specs.RunBytes.{runsBytes};
-use paper_types::Row;
-use paper_types::Run;
-use records::put_run;
+use paper::Row;
+use paper::Run;
+use record_write::put_run;
 
 // The row and the unit where the next duty starts.
 pub struct Place {

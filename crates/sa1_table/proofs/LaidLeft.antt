@@ -6,7 +6,7 @@ use mathlib.Core.List.{List, [], _∷_, _++_}
 use native.Mathlib.Omega.{arith}
 use lib.ListN.{length, drop, length-append}
 use Rattle.laws.proofs.Lists.{flat-append, flat-end}
-use Rattle.paper_types.specs.declared.Duty.{Duty}
+use Rattle.paper.specs.declared.Duty.{Duty}
 use Rattle.paper.specs.Duties.{dutyAt}
 use Rattle.paper.specs.Words.{slice}
 use Rattle.paper.specs.Sa1.{lay, slices}

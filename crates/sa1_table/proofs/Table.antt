@@ -9,11 +9,11 @@ use Rattle.laws.specs.Lists.{flat, over}
 use Rattle.laws.specs.Digits.{digits}
 use Rattle.laws.proofs.Lists.{length-flat}
 use Rattle.laws.proofs.Writing.{begun, more, moved, done}
-use Rattle.paper_types.specs.declared.Duty.{Duty}
+use Rattle.paper.specs.declared.Duty.{Duty}
 use Rattle.paper.specs.Sa1.{slices, sa1}
 use Rattle.paper.specs.Bytes.{small, headBytes, dutyBytes, dutyLength, endBytes, encode}
 use Rattle.table_laws.proofs.Bytes.{length-duty, length-encode}
-use Rattle.records.specs.Head.{headOf}
+use Rattle.record_write.specs.Head.{headOf}
 use Rattle.sa1_runs.specs.Laying.{laidFrom, corner}
 use Rattle.sa1_runs.specs.RunBytes.{runsBytes}
 

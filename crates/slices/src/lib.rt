@@ -4,12 +4,12 @@ ghost use mathlib.Core.List.{List};
 ghost use Prim.Native.Nat.{_*_, _/_, _%_, _≤_, _<_};
 ghost use Rattle.laws.specs.Divisor.{gcd, gcdOf};
 ghost use Rattle.laws.specs.Choice.{pick};
-ghost use Rattle.paper_types.specs.declared.Duty.{Duty};
+ghost use Rattle.paper.specs.declared.Duty.{Duty};
 ghost use Rattle.paper.specs.Words.{slice, whole};
 ghost use Rattle.paper.specs.Outcome.{refused, refusedAs};
 ghost use Rattle.paper.specs.Bytes.{mostTicks, within, dutyRanged};
-use paper_types::Duty;
-use paper_types::Refusal;
+use paper::Duty;
+use paper::Refusal;
 
 const MOST_TICKS: u32 = 1000000;
 

@@ -5,14 +5,14 @@ use Prim.Native.Nat.{ℕ}
 use mathlib.Core.Path.{_≡_, refl, sym, ap, _∙_}
 use mathlib.Core.List.{List}
 use native.Mathlib.Omega.{arith}
-use Rattle.paper_types.specs.declared.Reading.{Reading}
+use Rattle.paper.specs.declared.Reading.{Reading}
 use Rattle.paper.specs.Outcome.{answer, andThen}
 use Rattle.paper.specs.Bytes.{small, dutiesIn, goodRuns, tableIn, parse}
 use Rattle.paper.specs.Rules.{readingOf}
 use Rattle.paper.proofs.Outcomes.{answer-one, then-answer}
 use Rattle.table_laws.proofs.Read.{InForm, parsed}
-use Rattle.records.specs.Formed.{Formed}
-use Rattle.records.proofs.Table.{readingIn, reading-in}
+use Rattle.record_read.specs.Formed.{Formed}
+use Rattle.record_read.proofs.Table.{readingIn, reading-in}
 
 -- bytes whose records all passed give what those who read on need
 in-form : (b : List ℕ) (n k : ℕ) → dutiesIn small b ≡ n → goodRuns small b n ≡ k → InForm small b n k → parse small b ≡ answer (tableIn small b n k) → Formed b (readingIn b n k)

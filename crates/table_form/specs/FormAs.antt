@@ -1,5 +1,5 @@
 -- What the bytes of a table come to by their form.
-use Rattle.paper_types.specs.declared.Reading.{Reading}
+use Rattle.paper.specs.declared.Reading.{Reading}
 use Rattle.paper.specs.Outcome.{Outcome, refused, answer}
 use Rattle.table_form.specs.declared.Form.{Form}
 use Rattle.table_form.specs.declared.Form.the-variants.{Good, Fault}

@@ -6,15 +6,15 @@ ghost use Rattle.paper.specs.Outcome.{answer, andThen};
 ghost use Rattle.paper.specs.Bytes.{small, ticksIn, enginesIn, dutiesIn, badDuty, goodRuns, afterRuns, parse};
 ghost use Rattle.paper.specs.Rules.{readingOf};
 ghost use Rattle.table_form.specs.FormAs.{formAs};
-use paper_types::Reading;
+use paper::Reading;
+use record_read::duty_place;
+use record_read::read_four;
+use record_read::read_one;
+use record_read::run_place;
 use record_tests::duty_good;
 use record_tests::end_good;
 use record_tests::head_good;
 use record_tests::run_good;
-use records::duty_place;
-use records::read_four;
-use records::read_one;
-use records::run_place;
 
 // What bytes come to: what a good form reads, or the offset of its fault.
 pub enum Form {

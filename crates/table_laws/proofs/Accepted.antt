@@ -13,7 +13,7 @@ use borrow.Author.Tests.{eqb-true, eq-eqb, not-false}
 use Rattle.laws.proofs.Search.{none-clear, clear-none}
 use Rattle.laws.proofs.Decides.{eqb-decides, none-found}
 use Rattle.laws.proofs.Divisor.{gcdOf-divides}
-use Rattle.paper_types.specs.declared.Duty.{Duty}
+use Rattle.paper.specs.declared.Duty.{Duty}
 use Rattle.paper.specs.Duties.{duty, dutyAt}
 use Rattle.paper.specs.Words.{slice, blockLengthOf, runAt, Table}
 use Rattle.paper.specs.Outcome.{answer}

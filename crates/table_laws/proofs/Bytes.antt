@@ -11,8 +11,8 @@ use Rattle.laws.specs.Digits.{digits}
 use Rattle.laws.proofs.Lists.{length-flat}
 use Rattle.laws.proofs.Digits.{AreBytes, length-digits, bytes-one, bytes-append, bytes-field, bytes-flat}
 use Rattle.laws.proofs.Parts.{HasPart, holds-all, holds-at, holds-left, holds-right, holds-flat}
-use Rattle.paper_types.specs.declared.Duty.{Duty}
-use Rattle.paper_types.specs.declared.Run.{Run}
+use Rattle.paper.specs.declared.Duty.{Duty}
+use Rattle.paper.specs.declared.Run.{Run}
 use Rattle.paper.specs.Duties.{duty, dutyAt}
 use Rattle.paper.specs.Words.{run, Table, runAt}
 use Rattle.paper.specs.Bytes.{Width, headBytes, dutyBytes, runBytes, endBytes, encode, headLength, dutyLength, runLength, endLength, dutyPlace, runPlace}

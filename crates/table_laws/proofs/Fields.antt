@@ -15,8 +15,8 @@ use Rattle.laws.proofs.Cases.{and-both}
 use Rattle.laws.proofs.Lists.{tab-ext, tab-getD}
 use Rattle.laws.proofs.Digits.{length-digits}
 use Rattle.laws.proofs.Parts.{HasPart, holds-left, holds-room, holds-first, holds-field}
-use Rattle.paper_types.specs.declared.Duty.{Duty}
-use Rattle.paper_types.specs.declared.Run.{Run}
+use Rattle.paper.specs.declared.Duty.{Duty}
+use Rattle.paper.specs.declared.Run.{Run}
 use Rattle.paper.specs.Duties.{duty, dutyAt}
 use Rattle.paper.specs.Words.{run, Table, runAt}
 use Rattle.paper.specs.Bytes.{Width, headBytes, dutyBytes, runBytes, endBytes, encode, headLength, dutyLength, runLength, endLength, dutyPlace, runPlace, stands, ticksIn, enginesIn, dutiesIn, dutyIn, runIn, tableIn}

@@ -15,8 +15,8 @@ use Rattle.laws.specs.Search.{first, any}
 use Rattle.laws.proofs.Cases.{by-cases, lt-or-le, by-order, not-both, refuted, and-left, and-right}
 use Rattle.laws.proofs.Search.{Clear, none-clear, clear-none}
 use Rattle.laws.proofs.Decides.{Decides, eqb-decides}
-use Rattle.paper_types.specs.declared.Duty.{Duty}
-use Rattle.paper_types.specs.declared.Run.{Run}
+use Rattle.paper.specs.declared.Duty.{Duty}
+use Rattle.paper.specs.declared.Run.{Run}
 use Rattle.paper.specs.Duties.{dutyAt}
 use Rattle.paper.specs.Words.{stop, runAt, whole}
 use Rattle.paper.specs.Rules.{before, meet, unordered, overlaps, joins, twice, lowest}

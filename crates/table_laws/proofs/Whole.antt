@@ -8,7 +8,7 @@ use mathlib.Core.Logic.{_↔_}
 use mathlib.Core.List.{List}
 use native.Mathlib.Nat.{mul-div-cancel', mul-dvd-mul-left, dvd-of-mul-dvd-mul-left, pos-of-dvd-of-pos}
 use lib.ListN.{length}
-use Rattle.paper_types.specs.declared.Duty.{Duty}
+use Rattle.paper.specs.declared.Duty.{Duty}
 use Rattle.paper.specs.Duties.{dutyAt}
 use Rattle.paper.specs.Words.{blockLengthOf, whole}
 use Rattle.table_laws.proofs.Rules.{whole-decides}

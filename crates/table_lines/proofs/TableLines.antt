@@ -11,13 +11,13 @@ use Rattle.laws.specs.Lists.{tab}
 use Rattle.laws.proofs.Each.{at-each}
 use Rattle.laws.proofs.Lists.{length-tab, getD-tab}
 use Rattle.laws.proofs.Listing.{flat-most}
-use Rattle.paper_types.specs.declared.Reading.{Reading}
+use Rattle.paper.specs.declared.Reading.{Reading}
 use Rattle.paper.specs.Duties.{dutyAt}
 use Rattle.paper.specs.Words.{Table, run, runAt}
 use Rattle.paper.specs.Statements.{DutyRanged, RunRanged}
 use Rattle.paper.specs.Text.{printLine, planWord, dutyWord, runWord, planLine, dutyLine, runLine}
-use Rattle.records.specs.Formed.{Formed, tableOf}
-use Rattle.records.proofs.Table.{table-ticks, table-engines, table-duties, table-runs, table-ranged}
+use Rattle.record_read.specs.Formed.{Formed, tableOf}
+use Rattle.record_read.proofs.Table.{table-ticks, table-engines, table-duties, table-runs, table-ranged}
 use Rattle.line_print.proofs.Line.{line-most}
 use Rattle.table_lines.specs.Parts.{dutyLines, runLines}
 

@@ -4,15 +4,15 @@ ghost use Prim.Native.Nat.{_≤_, _<_};
 ghost use lib.ListN.{length};
 ghost use Rattle.paper.specs.Bytes.{mostTicks};
 ghost use Rattle.paper.specs.Text.{printLine, planWord, dutyWord, runLine, chainWord, loadsWord};
-ghost use Rattle.records.specs.Formed.{Formed, tableOf};
+ghost use Rattle.record_read.specs.Formed.{Formed, tableOf};
 ghost use Rattle.paper.specs.Outcome.{Puts};
 ghost use Rattle.table_lines.specs.Parts.{dutyLines, runLines, tableLines};
 use line_print::print_line;
-use paper_types::Duty;
-use paper_types::Reading;
-use paper_types::Run;
-use records::duty_of;
-use records::run_of;
+use paper::Duty;
+use paper::Reading;
+use paper::Run;
+use record_read::duty_of;
+use record_read::run_of;
 
 // The plan: block length, engines, duties.
 fn print_plan_line(out: &mut [u8], rd: Reading) -> usize

@@ -13,7 +13,7 @@ use Rattle.laws.specs.Choice.{pick}
 use Rattle.laws.specs.Lists.{tab}
 use Rattle.laws.proofs.Cases.{refuted}
 use Rattle.laws.proofs.Lists.{getD-tab, tab-zeros, set-tab}
-use Rattle.paper_types.specs.declared.Run.{Run}
+use Rattle.paper.specs.declared.Run.{Run}
 use Rattle.paper.specs.Words.{row, stop, covers, runAt, heldIn}
 use Rattle.paper.proofs.Holding.{covers-row, held-from-yes, held-from-no, held-from-end}
 use Rattle.table_tally.specs.Tally.{code, edgeAt}

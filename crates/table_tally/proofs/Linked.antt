@@ -11,17 +11,17 @@ use borrow.Author.Tests.{eqb-true, eqb-false, eq-eqb, ne-eqb}
 use Rattle.laws.specs.Lists.{tab}
 use Rattle.laws.proofs.Cases.{by-cases, lt-or-le}
 use Rattle.laws.proofs.Lists.{length-tab, getD-tab}
-use Rattle.paper_types.specs.declared.Run.{Run}
-use Rattle.paper_types.specs.declared.Reading.{Reading}
-use Rattle.paper_types.specs.declared.Held.{Held}
-use Rattle.paper_types.specs.declared.Held.the-variants.{Idle, By}
+use Rattle.paper.specs.declared.Run.{Run}
+use Rattle.paper.specs.declared.Reading.{Reading}
+use Rattle.paper.specs.declared.Held.{Held}
+use Rattle.paper.specs.declared.Held.the-variants.{Idle, By}
 use Rattle.paper.specs.Duties.{same}
 use Rattle.paper.specs.Words.{row, Table, runAt, heldIn}
 use Rattle.paper.specs.Rotation.{link}
 use Rattle.paper.proofs.Holding.{held-none, same-idle}
 use Rattle.paper.proofs.Links.{link-is}
-use Rattle.records.specs.Formed.{Formed, tableOf}
-use Rattle.records.proofs.Table.{table-runs, table-run}
+use Rattle.record_read.specs.Formed.{Formed, tableOf}
+use Rattle.record_read.proofs.Table.{table-runs, table-run}
 use Rattle.row_edges.specs.Links.{sameCode, linkOf}
 use Rattle.row_edges.proofs.Linking.{link-past, link-at}
 use Rattle.table_tally.specs.Tally.{code, edgeAt, startsOf, endsOf}

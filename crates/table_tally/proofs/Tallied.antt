@@ -14,13 +14,13 @@ use Rattle.laws.specs.Choice.{pick}
 use Rattle.laws.specs.Lists.{tab}
 use Rattle.laws.proofs.Cases.{by-cases}
 use Rattle.laws.proofs.Lists.{getD-tab, tab-zeros, set-tab}
-use Rattle.paper_types.specs.declared.Run.{Run}
-use Rattle.paper_types.specs.declared.Reading.{Reading}
+use Rattle.paper.specs.declared.Run.{Run}
+use Rattle.paper.specs.declared.Reading.{Reading}
 use Rattle.paper.specs.Words.{run, Table, runAt}
 use Rattle.paper.specs.Rules.{unitsOf}
 use Rattle.paper.specs.Bytes.{mostTicks}
-use Rattle.records.specs.Formed.{Formed, tableOf}
-use Rattle.records.proofs.Table.{table-runs, table-run}
+use Rattle.record_read.specs.Formed.{Formed, tableOf}
+use Rattle.record_read.proofs.Table.{table-runs, table-run}
 use Rattle.table_tally.specs.Tally.{unitsIn}
 
 -- one run's units, and those of the runs after it

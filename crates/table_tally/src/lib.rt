@@ -5,11 +5,11 @@ ghost use Prim.Native.Nat.{_+_, _≤_, _<_};
 ghost use Rattle.laws.specs.Choice.{pick};
 ghost use Rattle.paper.specs.Words.{stop, covers};
 ghost use Rattle.paper.specs.Bytes.{mostTicks};
-ghost use Rattle.records.specs.Formed.{Formed, tableOf};
+ghost use Rattle.record_read.specs.Formed.{Formed, tableOf};
 ghost use Rattle.table_tally.specs.Tally.{unitsIn, startsOf, endsOf};
-use paper_types::Reading;
-use paper_types::Run;
-use records::run_of;
+use paper::Reading;
+use paper::Run;
+use record_read::run_of;
 
 // What the pass gathers: the units of each of 64 duties; what holds the first and the last unit of each of 32 rows, and of
 // one row past them: 0 for idle, else the duty's number and 1.

@@ -6,9 +6,9 @@ use mathlib.Core.List.{List, [], _∷_}
 use lib.ListN.{length, set}
 use borrow.Author.Tests.{lt-ltb, le-ltb}
 use Rattle.laws.specs.Lists.{over}
-use Rattle.paper_types.specs.declared.Refusal.{Refusal}
-use Rattle.paper_types.specs.declared.Written.{Written}
-use Rattle.paper_types.specs.declared.Written.the-variants.{Length, Refused}
+use Rattle.paper.specs.declared.Refusal.{Refusal}
+use Rattle.paper.specs.declared.Written.{Written}
+use Rattle.paper.specs.declared.Written.the-variants.{Length, Refused}
 use Rattle.paper.specs.Outcome.{Outcome, refused, answer, refusedAs, mostPlace, writtenAs, lengthOf, leaves, Writes}
 use Rattle.paper.specs.Wanted.{Wanted}
 use Rattle.paper.specs.Builder.{build}

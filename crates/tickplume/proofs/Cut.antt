@@ -11,8 +11,8 @@ use borrow.Author.Tests.{ltb-true}
 use Rattle.laws.specs.Choice.{pick}
 use Rattle.laws.specs.Lists.{tab, same-list}
 use Rattle.laws.proofs.Cases.{by-cases}
-use Rattle.paper_types.specs.declared.Row.{Row}
-use Rattle.paper_types.specs.declared.Engine.{Engine}
+use Rattle.paper.specs.declared.Row.{Row}
+use Rattle.paper.specs.declared.Engine.{Engine}
 use Rattle.paper.specs.Duties.{engine}
 use Rattle.paper.specs.Words.{Table}
 use Rattle.paper.specs.Rotation.{link, rowAt}
@@ -20,8 +20,8 @@ use Rattle.paper.specs.Bytes.{small}
 use Rattle.paper.specs.Outcome.{Outcome, refused, answer, andThen}
 use Rattle.paper.specs.Rules.{accepted}
 use Rattle.paper.specs.Statements.{Ranged}
-use Rattle.paper_types.specs.declared.State.{State}
-use Rattle.paper_types.specs.declared.Dispatched.{Dispatched}
+use Rattle.paper.specs.declared.State.{State}
+use Rattle.paper.specs.declared.Dispatched.{Dispatched}
 use Rattle.paper.specs.Answers.{rowsAt, Hands, rowTold, advanced}
 use Rattle.table_laws.proofs.AcceptedBytes.{accepted-ranged}
 use Rattle.paper.proofs.Links.{closed, rows-end}

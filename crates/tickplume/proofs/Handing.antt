@@ -4,8 +4,8 @@ use Prim.Native.Nat.{ℕ, _≤_}
 use mathlib.Core.Path.{sym, ap, _∙_}
 use mathlib.Core.List.{List}
 use lib.ListN.{length}
-use Rattle.paper_types.specs.declared.State.{State}
-use Rattle.paper_types.specs.declared.Dispatched.{Dispatched}
+use Rattle.paper.specs.declared.State.{State}
+use Rattle.paper.specs.declared.Dispatched.{Dispatched}
 use Rattle.paper.specs.Outcome.{Outcome, verdictAs}
 use Rattle.paper.specs.Answers.{Hands}
 use Rattle.paper.specs.Face.{Tells, entries, needing, stateEntries}

@@ -12,13 +12,13 @@ use face_entries::too_short;
 use face_entries::word_of;
 use face_states::hand_over;
 use face_states::rows_in;
-use paper_types::Answer;
-use paper_types::Counted;
-use paper_types::Engine;
-use paper_types::Judged;
-use paper_types::RowTold;
-use paper_types::State;
-use paper_types::Written;
+use paper::Answer;
+use paper::Counted;
+use paper::Engine;
+use paper::Judged;
+use paper::RowTold;
+use paper::State;
+use paper::Written;
 
 // SA1's plan of the duties, into the lent table.
 #[no_mangle]

@@ -4,12 +4,12 @@ ghost use Prim.Native.Nat.{_≤_, _<_};
 ghost use Rattle.laws.specs.Search.{first};
 ghost use Rattle.paper.specs.Words.{stop, covers, runAt, heldIn};
 ghost use Rattle.paper.specs.Bytes.{mostTicks};
-ghost use Rattle.records.specs.Formed.{Formed, tableOf};
-use paper_types::Held;
-use paper_types::Reading;
-use paper_types::Row;
-use paper_types::Run;
-use records::run_of;
+ghost use Rattle.record_read.specs.Formed.{Formed, tableOf};
+use paper::Held;
+use paper::Reading;
+use paper::Row;
+use paper::Run;
+use record_read::run_of;
 
 // Whether a run is on the row and has the unit.
 fn run_covers(x: Run, row: Row, unit: u32) -> bool

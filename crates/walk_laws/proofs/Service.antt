@@ -16,8 +16,8 @@ use Rattle.laws.specs.Choice.{one-if}
 use Rattle.laws.specs.Sum.{sumTo}
 use Rattle.laws.proofs.Cases.{by-cases}
 use Rattle.laws.proofs.Sum.{sum-ext, sum-const, sum-blocks, count-once}
-use Rattle.paper_types.specs.declared.Duty.{Duty}
-use Rattle.paper_types.specs.declared.Held.the-variants.{By}
+use Rattle.paper.specs.declared.Duty.{Duty}
+use Rattle.paper.specs.declared.Held.the-variants.{By}
 use Rattle.paper.specs.Duties.{engine, jobStart, dutyAt, same}
 use Rattle.paper.specs.Words.{row, slice, Table, runAt, heldIn}
 use Rattle.paper.specs.Rotation.{link, rowAt}

@@ -16,8 +16,8 @@ use Rattle.laws.specs.Choice.{pick, one-if}
 use Rattle.laws.specs.Sum.{sumTo}
 use Rattle.laws.proofs.Cases.{by-cases, lt-or-le, refuted, and-left, and-right}
 use Rattle.laws.proofs.Sum.{sum-ext, sum-first, sum-plus, sum-const, sum-swap, sum-zero, sum-only, count-cell}
-use Rattle.paper_types.specs.declared.Run.{Run}
-use Rattle.paper_types.specs.declared.Held.the-variants.{By}
+use Rattle.paper.specs.declared.Run.{Run}
+use Rattle.paper.specs.declared.Held.the-variants.{By}
 use Rattle.paper.specs.Duties.{same, busy}
 use Rattle.paper.specs.Words.{row, stop, Table, runAt, heldIn}
 use Rattle.paper.specs.Walk.{loads}

@@ -15,10 +15,10 @@ use Rattle.laws.specs.Sum.{sumTo}
 use Rattle.laws.proofs.Cases.{by-cases, by-order, not-both, refuted}
 use Rattle.laws.proofs.Decides.{spans}
 use Rattle.laws.proofs.Sum.{sum-ext, sum-plus, sum-zero, sum-only, count-stretch}
-use Rattle.paper_types.specs.declared.Row.{Row}
-use Rattle.paper_types.specs.declared.Run.{Run}
-use Rattle.paper_types.specs.declared.Held.{Held}
-use Rattle.paper_types.specs.declared.Held.the-variants.{Idle, By}
+use Rattle.paper.specs.declared.Row.{Row}
+use Rattle.paper.specs.declared.Run.{Run}
+use Rattle.paper.specs.declared.Held.{Held}
+use Rattle.paper.specs.declared.Held.the-variants.{Idle, By}
 use Rattle.paper.specs.Duties.{same}
 use Rattle.paper.specs.Words.{row, stop, covers, runAt, heldIn}
 use Rattle.paper.specs.Rules.{unitsOf}

@@ -8,7 +8,7 @@ use native.Mathlib.Nat.{mul-le-mul}
 use native.Mathlib.Omega.{arith}
 use borrow.Author.Needs.{needs}
 use lib.ListN.{length}
-use Rattle.paper_types.specs.declared.Duty.{Duty}
+use Rattle.paper.specs.declared.Duty.{Duty}
 use Rattle.paper.specs.Words.{Table}
 use Rattle.paper.specs.Sa1.{sa1}
 use Rattle.paper.specs.Outcome.{answer}

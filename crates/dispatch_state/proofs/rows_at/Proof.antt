@@ -5,7 +5,7 @@ use mathlib.Core.Path.{_≡_, ap}
 use native.Mathlib.Omega.{arith}
 use borrow.Author.Needs.{needs}
 use Rattle.laws.proofs.Lists.{Filled, filled-none, filled-more}
-use Rattle.paper_types.specs.declared.Row.{Row}
+use Rattle.paper.specs.declared.Row.{Row}
 use Rattle.paper.specs.Duties.{engine}
 use Rattle.paper.specs.Rotation.{rowAt}
 use Rattle.row_edges.specs.Links.{linkOf}

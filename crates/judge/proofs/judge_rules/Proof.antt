@@ -8,10 +8,10 @@ use lib.ListN.{length}
 use Rattle.paper.specs.Words.{Table, blockLengthOf}
 use Rattle.paper.specs.Outcome.{refused}
 use Rattle.judge_runs.proofs.Found.{found-none, found-one}
-use Rattle.records.specs.Formed.{tableOf}
+use Rattle.record_read.specs.Formed.{tableOf}
 use borrow.Author.Tests.{eq-eqb, ne-eqb}
 use Rattle.paper.specs.Rules.{judgeTable}
-use Rattle.records.proofs.Table.{table-ticks, table-duties}
+use Rattle.record_read.proofs.Table.{table-ticks, table-duties}
 use borrow.Author.Needs.{needs}
 use Rattle.judge.proofs.judge_rules.Statement.{statement}
 use Rattle.judge.proofs.judge_rules.Tie as tie

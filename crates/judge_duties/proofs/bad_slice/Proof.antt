@@ -1,6 +1,6 @@
 -- `bad_slice`: a search for the first duty with a slice that is not whole.
 -- Assumes nothing.
-use Rattle.records.proofs.Table.{table-ticks, table-duties}
+use Rattle.record_read.proofs.Table.{table-ticks, table-duties}
 use Prim.Native.Nat.{_-_}
 use mathlib.Core.Bool.{not}
 use borrow.Author.Needs.{needs}
@@ -8,7 +8,7 @@ use Rattle.laws.proofs.Search.{Seeking, seek-none, seek-more, seek-hit, seek-mi
 use Rattle.paper.specs.Duties.{dutyAt}
 use Rattle.paper.specs.Words.{whole}
 use Rattle.paper.specs.Builder.{badSlice}
-use Rattle.records.specs.Formed.{tableOf}
+use Rattle.record_read.specs.Formed.{tableOf}
 use Rattle.judge_duties.proofs.bad_slice.Statement.{statement}
 use Rattle.judge_duties.proofs.bad_slice.Tie as tie
 

@@ -9,8 +9,8 @@ use Rattle.laws.proofs.Search.{Seeking, seek-none, seek-more, seek-hit, seek-mi
 use Rattle.paper.specs.Duties.{dutyAt}
 use Rattle.paper.specs.Words.{slice}
 use Rattle.paper.specs.Rules.{unitsOf, badSum}
-use Rattle.records.specs.Formed.{tableOf}
-use Rattle.records.proofs.Table.{table-duties}
+use Rattle.record_read.specs.Formed.{tableOf}
+use Rattle.record_read.proofs.Table.{table-duties}
 use Rattle.judge_duties.proofs.bad_sum.Statement.{statement}
 use Rattle.judge_duties.proofs.bad_sum.Tie as tie
 

@@ -6,8 +6,8 @@ use native.Mathlib.Omega.{arith}
 use borrow.Author.Needs.{needs}
 use Rattle.laws.specs.Divisor.{gcd, gcdOf}
 use Rattle.paper.specs.Words.{blockLengthOf}
-use Rattle.records.specs.Formed.{tableOf}
-use Rattle.records.proofs.Table.{table-duties}
+use Rattle.record_read.specs.Formed.{tableOf}
+use Rattle.record_read.proofs.Table.{table-duties}
 use Rattle.judge_duties.proofs.Periods.{periodsFrom, periods-start, periods-further, periods-finished}
 use Rattle.judge_duties.proofs.block_length_of.Statement.{statement}
 use Rattle.judge_duties.proofs.block_length_of.Tie as tie

@@ -2,8 +2,8 @@
 -- Assumes nothing.
 use native.Mathlib.Omega.{arith}
 use borrow.Author.Needs.{needs}
-use Rattle.records.specs.Formed.{tableOf}
-use Rattle.records.proofs.Table.{table-ticks}
+use Rattle.record_read.specs.Formed.{tableOf}
+use Rattle.record_read.proofs.Table.{table-ticks}
 use Rattle.table_tally.proofs.Tallied.{units-told}
 use Rattle.judge_duties.proofs.is_wrong_sum.Statement.{statement}
 use Rattle.judge_duties.proofs.is_wrong_sum.Tie as tie

@@ -5,8 +5,8 @@ use mathlib.Core.Path.{sym, _∙_}
 use borrow.Author.Needs.{needs}
 use Rattle.laws.proofs.Search.{Seeking, seek-none, seek-more, seek-hit, seek-miss}
 use Rattle.paper.specs.Rules.{unordered, badOrder}
-use Rattle.records.specs.Formed.{tableOf}
-use Rattle.records.proofs.Table.{table-runs}
+use Rattle.record_read.specs.Formed.{tableOf}
+use Rattle.record_read.proofs.Table.{table-runs}
 use Rattle.judge_pairs.proofs.bad_order.Statement.{statement}
 use Rattle.judge_pairs.proofs.bad_order.Tie as tie
 

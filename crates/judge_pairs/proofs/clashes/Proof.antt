@@ -5,7 +5,7 @@ use mathlib.Core.Path.{sym, _∙_}
 use borrow.Author.Needs.{needs}
 use Rattle.laws.proofs.Search.{Seeking, seek-none, seek-more, seek-any, seek-not-any}
 use Rattle.paper.specs.Words.{runAt}
-use Rattle.records.specs.Formed.{tableOf}
+use Rattle.record_read.specs.Formed.{tableOf}
 use Rattle.judge_pairs.specs.Clash.{clashOf}
 use Rattle.judge_pairs.proofs.clashes.Statement.{statement}
 use Rattle.judge_pairs.proofs.clashes.Tie as tie

@@ -7,8 +7,8 @@ use Rattle.laws.specs.Search.{any}
 use Rattle.laws.proofs.Search.{Seeking, seek-none, seek-more, seek-hit, seek-miss}
 use Rattle.paper.specs.Words.{runAt}
 use Rattle.paper.specs.Rules.{lowest}
-use Rattle.records.specs.Formed.{tableOf}
-use Rattle.records.proofs.Table.{table-runs}
+use Rattle.record_read.specs.Formed.{tableOf}
+use Rattle.record_read.proofs.Table.{table-runs}
 use Rattle.judge_pairs.specs.Clash.{clashOf}
 use Rattle.judge_pairs.proofs.lowest_clash.Statement.{statement}
 use Rattle.judge_pairs.proofs.lowest_clash.Tie as tie

@@ -2,8 +2,8 @@
 -- Assumes nothing.
 use Rattle.paper.specs.Words.{Table}
 use Rattle.paper.specs.Rules.{badOrder, overlaps, joins, twice, lowest, judgeRuns}
-use Rattle.records.specs.Formed.{tableOf}
-use Rattle.records.proofs.Table.{table-runs, table-duties, table-reading}
+use Rattle.record_read.specs.Formed.{tableOf}
+use Rattle.record_read.proofs.Table.{table-runs, table-duties, table-reading}
 use Rattle.judge_runs.proofs.Found.{found-none, found-one}
 use mathlib.Core.Path.{_≡_, ap}
 use mathlib.Core.Bool.{false}

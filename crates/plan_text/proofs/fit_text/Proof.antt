@@ -8,7 +8,7 @@ use lib.ListN.{length}
 use Rattle.laws.specs.Lists.{over}
 use Rattle.paper.specs.Text.{planText}
 use Rattle.paper.proofs.Outcomes.{writes-refused, writes-length}
-use Rattle.records.specs.Formed.{tableOf}
+use Rattle.record_read.specs.Formed.{tableOf}
 use Rattle.plan_text.proofs.Fitting.{fitted-short, fitted-room, front-is}
 use borrow.Author.Needs.{needs}
 use Rattle.plan_text.proofs.fit_text.Statement.{statement}

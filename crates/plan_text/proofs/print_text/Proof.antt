@@ -3,7 +3,7 @@
 use native.Mathlib.Omega.{arith}
 use borrow.Author.Needs.{needs}
 use Rattle.laws.proofs.Writing.{length-lent, written, grown, renamed, all-written}
-use Rattle.records.specs.Formed.{tableOf}
+use Rattle.record_read.specs.Formed.{tableOf}
 use Rattle.carried_over.proofs.Carrying.{later-read}
 use Rattle.table_lines.specs.Parts.{tableLines}
 use Rattle.chain_lines.specs.Parts.{rotationLinesBy}

@@ -12,7 +12,7 @@ use Rattle.laws.specs.Lists.{flat, over}
 use Rattle.paper.specs.Sa1.{slices}
 use Rattle.paper.specs.Bytes.{dutyBytes, endBytes}
 use Rattle.paper.specs.Wanted.{dutiesOf}
-use Rattle.records.specs.Head.{headOf}
+use Rattle.record_write.specs.Head.{headOf}
 use Rattle.sa1_runs.specs.Laying.{laidFrom, corner}
 use Rattle.sa1_runs.specs.RunBytes.{runsBytes}
 use Rattle.sa1_runs.proofs.RunBytes.{runs-bytes}

@@ -2,7 +2,7 @@
 -- Assumes nothing.
 use Prim.Native.Nat.{_+_}
 use lib.ListN.{length}
-use Rattle.records.proofs.Table.{reading-in}
+use Rattle.record_read.proofs.Table.{reading-in}
 use borrow.Author.Tests.{lt-ltb, le-ltb}
 use Rattle.paper.specs.Bytes.{afterRuns}
 use borrow.Author.Needs.{needs}

@@ -11,12 +11,12 @@ use mathlib.Core.List.{List, [], _∷_}
 use lib.ListN.{getD}
 use Rattle.laws.specs.Lists.{tab}
 use Rattle.laws.proofs.Lists.{length-tab, getD-tab}
-use Rattle.paper_types.specs.declared.Duty.{Duty}
-use Rattle.paper_types.specs.declared.Reading.{Reading}
+use Rattle.paper.specs.declared.Duty.{Duty}
+use Rattle.paper.specs.declared.Reading.{Reading}
 use Rattle.paper.specs.Duties.{dutyAt}
 use Rattle.paper.specs.Text.{printLine, dutyWord, dutyLine}
-use Rattle.records.specs.Formed.{tableOf}
-use Rattle.records.proofs.Table.{table-duties}
+use Rattle.record_read.specs.Formed.{tableOf}
+use Rattle.record_read.proofs.Table.{table-duties}
 use Rattle.table_lines.proofs.TableLines.{duties-most}
 use Rattle.table_lines.proofs.print_duties.Statement.{statement}
 use Rattle.table_lines.proofs.print_duties.Tie as tie

@@ -8,11 +8,11 @@ use borrow.Author.Needs.{needs}
 use native.Mathlib.Omega.{arith}
 use Rattle.laws.proofs.Writing.{length-lent}
 use Rattle.laws.proofs.Listing.{Listing, listing-start, listing-at, listing-room, listing-more, listing-end}
-use Rattle.paper_types.specs.declared.Reading.{Reading}
+use Rattle.paper.specs.declared.Reading.{Reading}
 use Rattle.paper.specs.Words.{run}
 use Rattle.paper.specs.Text.{runLine}
-use Rattle.records.specs.Formed.{tableOf}
-use Rattle.records.proofs.Table.{table-runs}
+use Rattle.record_read.specs.Formed.{tableOf}
+use Rattle.record_read.proofs.Table.{table-runs}
 use Rattle.table_lines.proofs.TableLines.{runs-most}
 use Rattle.table_lines.proofs.print_runs.Statement.{statement}
 use Rattle.table_lines.proofs.print_runs.Tie as tie

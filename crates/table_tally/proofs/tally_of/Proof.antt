@@ -5,8 +5,8 @@ use mathlib.Core.Path.{_∙_, _≡_, refl, ap}
 use native.Mathlib.Omega.{arith}
 use lib.ListN.{length}
 use Rattle.paper.specs.Bytes.{mostTicks}
-use Rattle.records.specs.Formed.{tableOf}
-use Rattle.records.proofs.Table.{table-runs, table-ticks}
+use Rattle.record_read.specs.Formed.{tableOf}
+use Rattle.record_read.proofs.Table.{table-runs, table-ticks}
 use Rattle.table_tally.proofs.Edged.{edgeFrom, edge-none, edge-back, edge-all}
 use Rattle.table_tally.proofs.Tallied.{unitsFrom, units-none, units-back, units-all, units-bound, units-ranged}
 use Rattle.table_tally.proofs.tally_of.Statement.{statement}

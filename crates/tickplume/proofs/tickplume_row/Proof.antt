@@ -3,7 +3,7 @@
 use mathlib.Core.Path.{sym, ap, _∙_}
 use borrow.Author.Needs.{needs}
 use mathlib.Core.List.{[], _∷_}
-use Rattle.paper_types.specs.declared.Row.{Row}
+use Rattle.paper.specs.declared.Row.{Row}
 use Rattle.paper.specs.Duties.{engine}
 use Rattle.paper.specs.Answers.{rowTold, rowAs}
 use Rattle.plan_laws.proofs.Listed.{row-listed}

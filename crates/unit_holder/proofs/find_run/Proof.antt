@@ -6,7 +6,7 @@ use native.Mathlib.Omega.{arith}
 use borrow.Author.Needs.{needs}
 use Rattle.laws.proofs.Search.{Seeking, seek-none, seek-more, seek-hit, seek-miss}
 use Rattle.paper.specs.Words.{covers, runAt}
-use Rattle.records.specs.Formed.{tableOf}
+use Rattle.record_read.specs.Formed.{tableOf}
 use Rattle.unit_holder.proofs.find_run.Statement.{statement}
 use Rattle.unit_holder.proofs.find_run.Tie as tie
 

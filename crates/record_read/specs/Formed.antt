@@ -1,0 +1,32 @@
+-- What a table's bytes in good form give to those who read on.
+use Prim.Native.Nat.{ℕ, _+_, _≤_, _<_}
+use mathlib.Core.Path.{_≡_}
+use mathlib.Core.List.{List}
+use lib.ListN.{length}
+use Rattle.paper.specs.declared.Reading.{Reading}
+use Rattle.paper.specs.Outcome.{answer}
+use Rattle.paper.specs.Bytes.{small, mostTicks, endLength, ticksIn, enginesIn, dutiesIn, goodRuns, dutyPlace, runPlace, dutyIn, runIn, tableIn, parse}
+use Rattle.paper.specs.Statements.{DutyRanged, RunRanged}
+use Rattle.paper.specs.Words.{Table}
+
+-- what a good form with the reading rd gives: counts in their ranges, every duty and every run in its range, no byte missing or left over
+pub record Formed (b : List ℕ) (rd : Reading) : Type 0 where
+  pub ticks : rd .«block_length» ≡ ticksIn b
+  pub engines : rd .engines ≡ enginesIn b
+  pub duties : rd .duties ≡ dutiesIn small b
+  pub runs : rd .runs ≡ goodRuns small b (rd .duties)
+  pub ticks-least : 1 ≤ rd .«block_length»
+  pub ticks-most : rd .«block_length» ≤ mostTicks
+  pub engines-least : 1 ≤ rd .engines
+  pub engines-most : rd .engines ≤ 32
+  pub duties-least : 1 ≤ rd .duties
+  pub duties-most : rd .duties ≤ 64
+  pub runs-most : rd .runs ≤ 128
+  pub long : runPlace small (rd .duties) (rd .runs) + endLength ≡ length b
+  pub duty-ranged : (d : ℕ) → d < rd .duties → DutyRanged (dutyIn b (dutyPlace small d))
+  pub run-ranged : (k : ℕ) → k < rd .runs → RunRanged (rd .«block_length») (rd .engines) (rd .duties) (runIn small b (runPlace small (rd .duties) k))
+  pub parsed : parse small b ≡ answer (tableIn small b (rd .duties) (rd .runs))
+
+-- the table that a reading tells in its bytes
+abbrev pub tableOf : List ℕ → Reading → Table
+tableOf b rd = tableIn small b (rd .duties) (rd .runs)
