@@ -36,7 +36,7 @@ use Rattle.plan_laws.proofs.PlanWhen.{When, plan-when}
 use Rattle.plan_laws.proofs.Planned.{planned-sa1, planned-wanted, WhenBuilt, built-when, built, built-accepted}
 use Rattle.table_laws.proofs.AcceptedBytes.{accepted-ranged, accepted-meets, accepted-when}
 use Rattle.plan_laws.proofs.Listed.{Listed, build-listed, judged-listed, question-listed, start-listed, row-listed, next-listed, counted-listed, input-listed}
-use Rattle.paper.proofs.Asked.{advancedBy, question-is, start-is, row-is, row-strange, next-strange, next-all, counted-is}
+use Rattle.paper.proofs.Calls.{advancedBy, question-is, start-is, row-is, row-strange, next-strange, next-all, counted-is}
 
 -- ---- Demand 1. "Every call takes whatever numbers and bytes arrive, ends, and either answers or refuses with the number document 01 lists. A
 -- ---- refused call changes no byte of the caller's."

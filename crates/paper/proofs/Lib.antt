@@ -5,5 +5,5 @@ pub mod Rotation
 pub mod Holding
 pub mod Links
 pub mod Loads
-pub mod Asked
+pub mod Calls
 pub mod CasesHold
