@@ -10,11 +10,11 @@ ghost use Rattle.builder.specs.BuildAt.{buildAt};
 ghost use Rattle.paper.specs.Builder.{build as buildFrom};
 use duty_lists::bad_slice;
 use duty_lists::take_duties;
-use duty_lists::total_slices;
 use paper::Refusal;
 use paper::Verdict;
 use paper::Written;
-use sa1_table::count_runs;
+use sa1_runs::fit_table;
+use sa1_table::lay_out;
 use sa1_table::put_table;
 use slices::gcd_of_all;
 
@@ -31,23 +31,15 @@ fn build_fitting(t: u32, engines: u32, services: &[u32], periods: &[u32], out: &
             place: bad,
         });
     }
-    let total = total_slices(t, services, periods);
-    if engines * t < total {
-        return Written::Refused(Refusal {
-            number: 7,
-            place: 0,
-        });
+    let laid = lay_out(t, services, periods);
+    let fitting = fit_table(t, engines, laid.end, duties, laid.runs, out.len());
+    match fitting {
+        Written::Refused(why) => Written::Refused(why),
+        Written::Length(needed) => {
+            put_table(out, t, engines, services, periods, laid.runs);
+            Written::Length(needed)
+        }
     }
-    let runs = count_runs(t, services, periods);
-    let needed = 10 + 9 * duties + 11 * runs;
-    if out.len() < needed {
-        return Written::Refused(Refusal {
-            number: 8,
-            place: needed,
-        });
-    }
-    put_table(out, t, engines, services, periods, runs);
-    Written::Length(needed)
 }
 
 // Builds a table from services and periods. The answer is the table's length in bytes; bytes past it stay. A refusal

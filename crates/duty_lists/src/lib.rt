@@ -1,13 +1,11 @@
 // What stands in the builder's two lists, services and periods: the duties, and tests 1 to 5, after which they are taken; then the first
-// duty whose slice is not whole, the slices, and what these add up to.
+// duty whose slice is not whole, and the slices.
 ghost use mathlib.Core.Path.{_≡_};
 ghost use Prim.Native.Nat.{_≤_, _<_};
 ghost use lib.ListN.{length};
-ghost use Rattle.laws.specs.Lists.{sumOf};
 ghost use Rattle.paper.specs.declared.Duty.{Duty};
 ghost use Rattle.paper.specs.Duties.{dutyAt};
 ghost use Rattle.paper.specs.Words.{slice};
-ghost use Rattle.paper.specs.Sa1.{slices};
 ghost use Rattle.paper.specs.Outcome.{verdictAs};
 ghost use Rattle.paper.specs.Wanted.{wanted, dutiesOf, badRange, taken};
 ghost use Rattle.paper.specs.Builder.{badSlice};
@@ -99,18 +97,4 @@ pub fn slice_at(t: u32, services: &[u32], periods: &[u32], i: usize) -> u32
     ensures { λ r. ⌜ (r ≡ slice t (dutyAt (dutiesOf (now (services .entry)) (now (periods .entry))) i)) × (r ≤ t) ⌝ }
 {
     slice_of(t, duty_at(services, periods, i))
-}
-
-// What the slices add up to.
-pub fn total_slices(t: u32, services: &[u32], periods: &[u32]) -> u32
-    requires { ⌜ Sliceable t (now services) (now periods) ⌝ }
-    ensures { λ r. ⌜ r ≡ sumOf (slices t (dutiesOf (now (services .entry)) (now (periods .entry)))) ⌝ }
-{
-    let mut total: u32 = 0;
-    let mut i = 0;
-    while i < services.len() {
-        total += slice_at(t, services, periods, i);
-        i += 1;
-    }
-    total
 }

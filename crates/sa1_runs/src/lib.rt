@@ -1,15 +1,15 @@
-// SA1's runs: the row and the unit where each duty starts, and a duty's one run, or the two of a split, as bytes, each where the last one
-// stopped.
+// SA1 by its numbers alone: the row and the unit where each duty starts, a duty's one run or the two of a split, and whether all of it fits
+// the engines and a buffer.
 ghost use mathlib.Core.Path.{_≡_};
 ghost use Prim.Native.Nat.{_+_, _*_, _≤_, _<_};
-ghost use lib.ListN.{length};
+ghost use Rattle.paper.specs.Outcome.{writtenAs};
 ghost use Rattle.paper.specs.Bytes.{small, mostTicks};
-ghost use Rattle.sa1_runs.specs.Laying.{placeAfter, laidAt, runsAt};
-ghost use Rattle.laws.specs.Lists.{over};
-ghost use Rattle.sa1_runs.specs.RunBytes.{runsBytes};
+ghost use Rattle.sa1_runs.specs.Laying.{placeAfter, runsAt, firstRun, secondRun, unitsTo};
+ghost use Rattle.sa1_runs.specs.Fitting.{fittedBy};
+use paper::Refusal;
 use paper::Row;
 use paper::Run;
-use record_write::put_run;
+use paper::Written;
 
 // The row and the unit where the next duty starts.
 pub struct Place {
@@ -36,57 +36,76 @@ pub fn after(t: u32, n: u32, from: Place) -> Place
     }
 }
 
-// Writes the two runs of duty i, whose slice of n units goes past the end of the row: the first goes to the end, the second
-// starts at unit 0 of the next row and has what is left.
-fn put_split(out: &mut [u8], t: u32, n: u32, i: u32, from: Place)
-    requires { ⌜ (from .unit < t) × (n ≤ t) × (t ≤ mostTicks) × (from .row .0 ≤ small .mostDuties) × (t < from .unit + n) × (22 ≤ length (now out)) ⌝ }
-    ensures { λ r. ⌜ now (out .exit) ≡ over (runsBytes (laidAt t n i from)) (now (out .entry)) ⌝ }
+// How many runs n units from a unit on make: one, or two where they go past the end of the row.
+pub fn runs_at(t: u32, n: u32, unit: u32) -> usize
+    requires { ⌜ (unit < t) × (n ≤ t) × (t ≤ mostTicks) ⌝ }
+    ensures { λ r. ⌜ (r ≡ runsAt t n unit) × (r ≤ 2) ⌝ }
 {
-    let row = from.row.0;
-    let unit = from.unit;
-    let to_end = t - unit;
-    put_run(
-        out,
-        Run {
-            row: Row(row),
-            duty: i,
-            first: unit,
-            length: to_end,
-        },
-    );
-    let next = row + 1;
-    let rest = unit + n - t;
-    put_run(
-        &mut out[11..],
-        Run {
-            row: Row(next),
-            duty: i,
-            first: 0,
-            length: rest,
-        },
-    );
+    if unit + n <= t {
+        return 1;
+    }
+    2
 }
 
-// Writes the runs of duty i, whose slice is n, and answers how many bytes they have. At an exact fit there is one run.
-pub fn put_duty_runs(out: &mut [u8], t: u32, n: u32, i: u32, from: Place) -> usize
-    requires { ⌜ (from .unit < t) × (n ≤ t) × (t ≤ mostTicks) × (from .row .0 ≤ small .mostDuties) × (11 * runsAt t n (from .unit) ≤ length (now out)) ⌝ }
-    ensures { λ r. ⌜ (now (out .exit) ≡ over (runsBytes (laidAt t n i from)) (now (out .entry))) × (r ≡ 11 * runsAt t n (from .unit)) ⌝ }
+// The first run of duty i, whose slice is n: all of it, or what the row has left.
+pub fn first_run(t: u32, n: u32, i: u32, from: Place) -> Run
+    requires { ⌜ (from .unit < t) × (n ≤ t) × (t ≤ mostTicks) ⌝ }
+    ensures { λ r. ⌜ r ≡ firstRun t n i from ⌝ }
 {
-    let row = from.row.0;
     let unit = from.unit;
-    let end = unit + n;
-    if end <= t {
-        put_run(
-            out,
-            Run {
-                row: Row(row),
-                duty: i,
-                first: unit,
-                length: n,
-            },
-        );
-        return 11;
+    let mut length = n;
+    if t - unit < n {
+        length = t - unit;
     }
-    put_split(out, t, n, i, from);
-    22
+    Run {
+        row: Row(from.row.0),
+        duty: i,
+        first: unit,
+        length,
+    }
+}
+
+// The second run of a split duty: it starts at unit 0 of the next row and has what is left.
+pub fn second_run(t: u32, n: u32, i: u32, from: Place) -> Run
+    requires { ⌜ (from .unit < t) × (n ≤ t) × (t ≤ mostTicks) × (from .row .0 ≤ small .mostDuties) × (t < from .unit + n) ⌝ }
+    ensures { λ r. ⌜ r ≡ secondRun t n i from ⌝ }
+{
+    let next = from.row.0 + 1;
+    let rest = from.unit + n - t;
+    Run {
+        row: Row(next),
+        duty: i,
+        first: 0,
+        length: rest,
+    }
+}
+
+// Refusals 7 and 8, of slices that are laid up to a place: more units than the engines have, and a buffer with less room than the table needs.
+// Else the table's length in bytes.
+pub fn fit_table(
+    t: u32,
+    engines: u32,
+    end: Place,
+    duties: usize,
+    runs: usize,
+    room: usize,
+) -> Written
+    requires { ⌜ (t ≤ mostTicks) × (engines ≤ small .mostEngines) × (end .unit < t) × (end .row .0 ≤ small .mostDuties) ⌝ }
+    requires { ⌜ (duties ≤ small .mostDuties) × (runs ≤ small .mostRuns) ⌝ }
+    ensures { λ r. ⌜ writtenAs r ≡ fittedBy (engines * t) (unitsTo t end) (10 + 9 * duties + 11 * runs) room ⌝ }
+{
+    if engines * t < end.row.0 * t + end.unit {
+        return Written::Refused(Refusal {
+            number: 7,
+            place: 0,
+        });
+    }
+    let needed = 10 + 9 * duties + 11 * runs;
+    if room < needed {
+        return Written::Refused(Refusal {
+            number: 8,
+            place: needed,
+        });
+    }
+    Written::Length(needed)
 }

@@ -14,7 +14,7 @@ use Rattle.paper.specs.Bytes.{small, runBytes}
 use Rattle.duty_lists.proofs.Duties.{slices-left, slices-none}
 use Rattle.sa1_runs.specs.declared.Place.{Place}
 use Rattle.sa1_runs.specs.Laying.{placeAfter, laidAt, laidFrom, runsAt}
-use Rattle.sa1_runs.specs.RunBytes.{runsBytes}
+use Rattle.sa1_table.specs.RunBytes.{runsBytes}
 use Rattle.sa1_runs.proofs.Laying.{laid-length}
 
 -- one slice, then the others from the place after it

@@ -1,2 +1,3 @@
 pub mod LaidLeft
+pub mod RunBytes
 pub mod Table

@@ -15,7 +15,7 @@ use Rattle.paper.specs.Bytes.{small, headBytes, dutyBytes, dutyLength, endBytes
 use Rattle.table_laws.proofs.Bytes.{length-duty, length-encode}
 use Rattle.record_write.specs.Head.{headOf}
 use Rattle.sa1_runs.specs.Laying.{laidFrom, corner}
-use Rattle.sa1_runs.specs.RunBytes.{runsBytes}
+use Rattle.sa1_table.specs.RunBytes.{runsBytes}
 
 -- four parts, joined from either side
 four-parts : (a b c d : List ℕ) → ((a ++ b) ++ c) ++ d ≡ a ++ (b ++ (c ++ (d ++ [])))

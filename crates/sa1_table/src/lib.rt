@@ -1,4 +1,5 @@
-// SA1's table as bytes: how many runs it has; and the head, the duties, the runs and the end, each record where the last one stopped.
+// SA1's table: its layout, which tells whether it fits; and its bytes, the head, the duties, the runs and the end, each record where the last
+// one stopped.
 ghost use mathlib.Core.Path.{_≡_};
 ghost use Prim.Native.Nat.{_+_, _*_, _≤_, _<_};
 ghost use lib.ListN.{length};
@@ -7,33 +8,32 @@ ghost use Rattle.paper.specs.Sa1.{slices, sa1};
 ghost use Rattle.paper.specs.Bytes.{small, mostTicks, dutyBytes, encode};
 ghost use Rattle.paper.specs.Wanted.{dutiesOf};
 ghost use Rattle.duty_lists.specs.Sliceable.{Paired, Sliceable};
-ghost use Rattle.sa1_runs.specs.Laying.{laidFrom, runsAt, corner};
-ghost use Rattle.sa1_runs.specs.RunBytes.{runsBytes};
+ghost use Rattle.sa1_runs.specs.Laying.{laidAt, laidFrom, runsAt, corner};
+ghost use Rattle.sa1_table.specs.Layouts.{LaidOut};
+ghost use Rattle.sa1_table.specs.RunBytes.{runsBytes};
 use duty_lists::duty_at;
 use duty_lists::slice_at;
 use paper::Row;
 use record_write::put_duty;
 use record_write::put_end;
 use record_write::put_head;
+use record_write::put_run;
 use sa1_runs::Place;
 use sa1_runs::after;
-use sa1_runs::put_duty_runs;
+use sa1_runs::first_run;
+use sa1_runs::runs_at;
+use sa1_runs::second_run;
 
-// How many runs n units from a unit on make: one, or two where they go past the end of the row.
-fn runs_at(t: u32, n: u32, unit: u32) -> usize
-    requires { ⌜ (unit < t) × (n ≤ t) × (t ≤ mostTicks) ⌝ }
-    ensures { λ r. ⌜ (r ≡ runsAt t n unit) × (r ≤ 2) ⌝ }
-{
-    if unit + n <= t {
-        return 1;
-    }
-    2
+// What the slices come to when they are laid one after the other: how many runs they make, and the place after the last.
+pub struct Layout {
+    pub runs: usize,
+    pub end: Place,
 }
 
-// How many runs SA1 makes of the duties.
-pub fn count_runs(t: u32, services: &[u32], periods: &[u32]) -> usize
+// Lays the slices of all duties by SA1, from unit 0 of row 0 on, and writes nothing.
+pub fn lay_out(t: u32, services: &[u32], periods: &[u32]) -> Layout
     requires { ⌜ Sliceable t (now services) (now periods) ⌝ }
-    ensures { λ r. ⌜ (r ≡ length (laidFrom t (slices t (dutiesOf (now (services .entry)) (now (periods .entry)))) 0 corner)) × (r ≤ 2 * length (now (services .entry))) ⌝ }
+    ensures { λ r. ⌜ LaidOut t (dutiesOf (now (services .entry)) (now (periods .entry))) r ⌝ }
 {
     let mut runs = 0;
     let mut place = Place {
@@ -47,7 +47,20 @@ pub fn count_runs(t: u32, services: &[u32], periods: &[u32]) -> usize
         place = after(t, n, place);
         i += 1;
     }
-    runs
+    Layout { runs, end: place }
+}
+
+// Writes the runs of duty i, whose slice is n, each where the last one stopped, and answers how many bytes they have.
+fn put_duty_runs(out: &mut [u8], t: u32, n: u32, i: u32, from: Place) -> usize
+    requires { ⌜ (from .unit < t) × (n ≤ t) × (t ≤ mostTicks) × (from .row .0 ≤ small .mostDuties) × (11 * runsAt t n (from .unit) ≤ length (now out)) ⌝ }
+    ensures { λ r. ⌜ (now (out .exit) ≡ over (runsBytes (laidAt t n i from)) (now (out .entry))) × (r ≡ 11 * runsAt t n (from .unit)) ⌝ }
+{
+    put_run(out, first_run(t, n, i, from));
+    if runs_at(t, n, from.unit) == 1 {
+        return 11;
+    }
+    put_run(&mut out[11..], second_run(t, n, i, from));
+    22
 }
 
 // Writes the duties over the front of the lent rest.

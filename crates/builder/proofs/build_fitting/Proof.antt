@@ -1,36 +1,37 @@
--- `build_fitting`: each refusal is the one that the definition has after the tests that have failed; past them the table is written, and the
--- bytes needed are its length.
+-- `build_fitting`: 6 is looked for first; past it the layout tells what the slices add up to and how long the table is, by which 7 and 8 are told,
+-- and what is written is the table.
 -- Assumes nothing.
-use Prim.Native.Nat.{_+_, _*_, _≤_}
-use mathlib.Core.Path.{_≡_, _∙_}
+use Prim.Native.Nat.{ℕ, _+_, _*_, _≤_}
+use mathlib.Core.Path.{_≡_, sym, ap, _∙_}
 use mathlib.Core.List.{List}
-use native.Mathlib.Nat.{mul-le-mul}
 use native.Mathlib.Omega.{arith}
 use borrow.Author.Needs.{needs}
 use lib.ListN.{length}
 use Rattle.paper.specs.declared.Duty.{Duty}
-use Rattle.paper.specs.Words.{Table}
+use Rattle.paper.specs.declared.Written.the-variants.{Length}
 use Rattle.paper.specs.Sa1.{sa1}
-use Rattle.paper.specs.Outcome.{answer}
+use Rattle.paper.specs.Outcome.{Outcome, answer, andThen, writtenAs}
 use Rattle.paper.specs.Bytes.{small, encode}
 use Rattle.paper.specs.Wanted.{dutiesOf}
-use Rattle.paper.specs.Builder.{badSlice, planAt}
 use Rattle.paper.proofs.Outcomes.{writes-refused, writes-length}
 use Rattle.plan_laws.proofs.Planned.{length-duties}
+use Rattle.sa1_runs.specs.Laying.{unitsTo}
+use Rattle.sa1_runs.proofs.Fitting.{fitted-told}
 use Rattle.sa1_table.proofs.Table.{sa1-length}
-use Rattle.builder.proofs.Sized.{refusal-6, refusal-7, past-7, refusal-8, past-8}
+use Rattle.builder.specs.BuildAt.{buildAt}
+use Rattle.builder.proofs.Sized.{refusal-6, past-6}
 use Rattle.builder.proofs.build_fitting.Statement.{statement}
 use Rattle.builder.proofs.build_fitting.Tie as tie
 
--- the duties, and SA1's table of them
+-- the duties, and the bytes of SA1's table of them
 abbrev duties : tie.Start → List Duty
 duties s = dutiesOf (s .args .services .now) (s .args .periods .now)
 
 many : (s : tie.Start) → length (duties s) ≡ length (s .args .services .now)
 many s = length-duties (s .args .services .now) (s .args .periods .now)
 
-abbrev table : tie.Start → Table
-table s = sa1 (s .args .t) (s .args .engines) (duties s)
+abbrev bytes : tie.Start → List ℕ
+bytes s = encode small (sa1 (s .args .t) (s .args .engines) (duties s))
 
 bad-slice-requires : tie.Need-bad-slice-requires
 bad-slice-requires c κs = search needs
@@ -40,67 +41,68 @@ returns c =
     let s = c .before .before .before .before .before in
     writes-refused _ _ (refusal-6 _ _ (duties s) _ _ (c .before .bad-slice .ensures) (omega (arith, many s)))
 
--- past the first test every slice is whole
-wholes :
-    (c : tie.Else1) → let s = c .before .before .before .before .before in
-    length (duties s) ≤ badSlice (s .args .t) (duties s)
-wholes c = omega (arith, many (c .before .before .before .before .before), c .before .bad-slice .ensures)
+lay-out-requires : tie.Need-lay-out-requires
+lay-out-requires c κs = search needs
 
-total-slices-requires : tie.Need-total-slices-requires
-total-slices-requires c κs = search needs
+-- the bytes that the runs need, which are the table's
+abbrev needed : tie.After-lay-out → ℕ
+needed c = 10 + 9 * length (c .before .before .before .before .before .before .args .services .now) + 11 * c .lay-out .result .runs
 
-mul-if2 : tie.Need-mul-if2
-mul-if2 c =
-    let s = c .before .before .before .before .before .before in
-    omega (arith, mul-le-mul (s .pre .1) (s .pre .0 .ticks-most))
-
-returns-2 : tie.Need-returns-2
-returns-2 c = writes-refused _ _ (refusal-7 _ _ _ _ (wholes (c .before .before)) (omega (arith, c .before .total-slices .ensures)))
-
--- past the second they fit, and SA1's table is the plan
-plans :
-    (c : tie.Else2) → let s = c .before .before .before .before .before .before .before in
-    planAt (s .args .t) (s .args .engines) (duties s) ≡ answer (table s)
-plans c = past-7 _ _ _ (wholes (c .before .before)) (omega (arith, c .before .total-slices .ensures))
-
-count-runs-requires : tie.Need-count-runs-requires
-count-runs-requires c κs = search needs
-
--- it has the bytes that its runs need
-size :
-    (c : tie.After-count-runs) → let s = c .before .before .before .before .before .before .before .before in
-    length (encode small (table s)) ≡ 10 + 9 * length (s .args .services .now) + 11 * c .count-runs .result
+size : (c : tie.After-lay-out) → length (bytes (c .before .before .before .before .before .before)) ≡ needed c
 size c =
-    let s = c .before .before .before .before .before .before .before .before in
-    sa1-length (s .args .t) (s .args .engines) (duties s) ∙ omega (arith, many s, c .count-runs .ensures .0)
+    let s = c .before .before .before .before .before .before in
+    sa1-length (s .args .t) (s .args .engines) (duties s) ∙ omega (arith, many s, c .lay-out .ensures .counted)
 
-mul-needed : tie.Need-mul-needed
-mul-needed c = search needs
+fit-table-requires : tie.Need-fit-table-requires
+fit-table-requires c κs =
+    let s = c .before .before .before .before .before .before in
+    let laid = c .lay-out .ensures in
+    let few = s .pre .0 .paired .few in
+    ((s .pre .0 .ticks-most, s .pre .1, laid .unit-below, omega (arith, many s, laid .row-most, few)), (few, omega (arith, many s, laid .most-runs, few)))
 
-add-needed : tie.Need-add-needed
-add-needed c = search needs
+-- what 7 and 8 come to decides
+decided :
+    (c : tie.After-fit-table) → let s = c .before .before .before .before .before .before .before in
+    buildAt (s .args .t) (s .args .engines) (duties s) (length (s .args .out .now))
+    ≡ andThen (writtenAs (c .fit-table .result)) (λ (k : ℕ). answer (bytes s))
+decided c =
+    let s = c .before .before .before .before .before .before .before in
+    past-6 (s .args .t) (s .args .engines) (duties s) _ _ _ (omega (arith, many s, c .before .before .before .bad-slice .ensures)) (c .before .lay-out .ensures .total) (size (c .before))
+    ∙ ap (λ (o : Outcome ℕ). andThen o (λ (k : ℕ). answer (bytes s))) (sym (c .fit-table .ensures))
 
-mul-needed-2 : tie.Need-mul-needed-2
-mul-needed-2 c = search needs
+enum-known-fitting : tie.Need-enum-known-fitting
+enum-known-fitting c = search needs
 
-add-needed-2 : tie.Need-add-needed-2
-add-needed-2 c = search needs
+enum-known-fitting-2 : tie.Need-enum-known-fitting-2
+enum-known-fitting-2 c = search needs
 
-returns-3 : tie.Need-returns-3
-returns-3 c = writes-refused _ _ (refusal-8 _ _ _ _ _ _ (plans (c .before .before)) (size (c .before)) (search needs))
+-- where it is answered, the answer is what the table needs, and there is the room
+told : (c : tie.After-fit-table) (k : ℕ) → c .fit-table .result ≡ Length k → (k ≡ needed (c .before)) × (k ≤ length (c .before .before .before .before .before .before .before .args .out .now))
+told c k e =
+    let a = c .before .before .before .before .before .before .before .args in
+    let end = c .before .lay-out .result .end in
+    let z = fitted-told (a .engines * a .t) (unitsTo (a .t) end) (needed (c .before)) (length (a .out .now)) k (sym (c .fit-table .ensures) ∙ ap writtenAs e) in
+    (z .0, rw (z .0) (z .1))
 
 put-table-requires : tie.Need-put-table-requires
 put-table-requires c κs =
-    let runs = c .before .before .count-runs .ensures in
-    (c .before .before .before .before .before .before .before .before .before .before .pre .0, runs .0, runs .1, search needs)
+    let s = c .before .before .before .before .before .before .before .before .before .before .before in
+    let laid = c .before .before .before .before .before .lay-out .ensures in
+    let z = told (c .before .before .before .before) _ (c .before .before .fitting2 .given .1) in
+    (s .pre .0, laid .counted, omega (arith, many s, laid .most-runs), omega (arith, z))
+
+returns-2 : tie.Need-returns-2
+returns-2 c = writes-refused _ _ (decided (c .before .before .before) ∙ rw (c .before .fitting .given .1))
 
 same-length : tie.Need-same-length
 same-length c = search needs
 
-returns-4 : tie.Need-returns-4
-returns-4 c =
-    let counted = c .before .before .before .before .before in
-    writes-length _ _ _ (past-8 _ _ _ _ _ _ (plans (counted .before)) (size counted) (search needs)) (size counted) (c .before .before .put-table .ensures)
+returns-3 : tie.Need-returns-3
+returns-3 c =
+    let s = c .before .before .before .before .before .before .before .before .before .before .before .before .before .before in
+    let fits = c .before .before .before .before .before .before .before in
+    let k = c .before .before .before .before .before .fitting2 .given in
+    writes-length (bytes s) _ _ (decided fits ∙ rw (k .1)) (size (fits .before) ∙ sym (told fits (k .0 .0) (k .1) .0)) (c .before .before .put-table .ensures)
 
 pub build-fitting-spec : {M : Type 1} → statement M
 build-fitting-spec =
@@ -108,15 +110,11 @@ build-fitting-spec =
     (tie.spec
     bad-slice-requires
     returns
-    total-slices-requires
-    mul-if2
-    returns-2
-    count-runs-requires
-    mul-needed
-    add-needed
-    mul-needed-2
-    add-needed-2
-    returns-3
+    lay-out-requires
+    fit-table-requires
+    enum-known-fitting
+    enum-known-fitting-2
     put-table-requires
+    returns-2
     same-length
-    returns-4)
+    returns-3)

@@ -11,8 +11,8 @@ use Rattle.paper.specs.Sa1.{slices}
 use Rattle.paper.specs.Wanted.{dutiesOf}
 use Rattle.sa1_runs.specs.Laying.{laidAt, laidFrom, corner}
 use Rattle.plan_laws.proofs.Planned.{length-duties}
-use Rattle.sa1_runs.specs.RunBytes.{runsBytes}
-use Rattle.sa1_runs.proofs.RunBytes.{bytes-length}
+use Rattle.sa1_table.specs.RunBytes.{runsBytes}
+use Rattle.sa1_table.proofs.RunBytes.{bytes-length}
 use Rattle.sa1_table.proofs.LaidLeft.{count-left, bytes-left, bytes-none}
 use Rattle.sa1_table.proofs.put_runs.Statement.{statement}
 use Rattle.sa1_table.proofs.put_runs.Tie as tie

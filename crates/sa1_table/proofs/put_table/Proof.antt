@@ -14,8 +14,8 @@ use Rattle.paper.specs.Bytes.{dutyBytes, endBytes}
 use Rattle.paper.specs.Wanted.{dutiesOf}
 use Rattle.record_write.specs.Head.{headOf}
 use Rattle.sa1_runs.specs.Laying.{laidFrom, corner}
-use Rattle.sa1_runs.specs.RunBytes.{runsBytes}
-use Rattle.sa1_runs.proofs.RunBytes.{runs-bytes}
+use Rattle.sa1_table.specs.RunBytes.{runsBytes}
+use Rattle.sa1_table.proofs.RunBytes.{runs-bytes}
 use Rattle.plan_laws.proofs.Planned.{length-duties}
 use Rattle.sa1_table.proofs.Table.{duties-bytes, table-is, head-of-length, parts-written}
 use Rattle.sa1_table.proofs.put_table.Statement.{statement}

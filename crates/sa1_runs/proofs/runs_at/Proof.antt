@@ -1,10 +1,10 @@
 -- `runs_at`: one run where the units stay in the row, else two.
 -- Assumes nothing.
 use mathlib.Core.Path.{sym}
 use Rattle.sa1_runs.proofs.Laying.{runs-whole, runs-split}
 use borrow.Author.Needs.{needs}
-use Rattle.sa1_table.proofs.runs_at.Statement.{statement}
-use Rattle.sa1_table.proofs.runs_at.Tie as tie
+use Rattle.sa1_runs.proofs.runs_at.Statement.{statement}
+use Rattle.sa1_runs.proofs.runs_at.Tie as tie
 
 add-if1 : tie.Need-add-if1
 add-if1 c = search needs
