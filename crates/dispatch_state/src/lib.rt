@@ -1,15 +1,19 @@
 // The rows of all engines in a block, worked out from the block's number; and what a dispatcher's state, a block and its rows, comes to:
-// the block after it, or the row of an engine.
+// the block after it, the row of an engine, or a refusal with no state.
 ghost use mathlib.Core.Path.{_≡_};
 ghost use Prim.Native.Nat.{_≤_};
 ghost use Rattle.laws.specs.Lists.{same-list};
-ghost use Rattle.paper.specs.Answers.{rowAs};
+ghost use Rattle.paper.specs.Outcome.{refusedAs};
+ghost use Rattle.paper.specs.Answers.{Hands, rowAs};
 ghost use Rattle.row_edges.specs.Links.{linkOf};
 ghost use Rattle.dispatch_state.specs.RowsBy.{rowsBy};
 ghost use Rattle.dispatch_state.specs.ByState.{stepAs, stepBy, rowBy};
+use paper::Dispatched;
 use paper::Engine;
 use paper::Refusal;
 use paper::RowTold;
+use paper::State;
+use paper::Verdict;
 use rotation::row_in;
 
 const MOST_ENGINES: usize = 32;
@@ -111,4 +115,15 @@ pub fn tell(
         });
     }
     RowTold::At(row_in(starts, ends, engine, block))
+}
+
+// A refusal, with a state that is none.
+pub fn refuse(why: Refusal) -> Dispatched
+    ensures { λ r. ⌜ Hands (refusedAs why) r ⌝ }
+{
+    let rows = [0u32; 32];
+    Dispatched {
+        verdict: Verdict::Refused(why),
+        state: State { block: 0, rows },
+    }
 }

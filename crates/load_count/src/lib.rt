@@ -1,14 +1,12 @@
-// The count of loads. The bytes are judged first; after that nothing looks at the runs, and nothing walks over blocks or ticks.
+// The count of loads of a table that was judged, by its reading and the edges of its rows: nothing looks at the runs, and nothing walks
+// over blocks or ticks.
 ghost use mathlib.Core.Path.{_≡_};
 ghost use Prim.Native.Nat.{_+_, _-_, _*_, _≤_};
-ghost use Rattle.paper.specs.Answers.{counted, countAs, mostBlocks};
+ghost use Rattle.paper.specs.Answers.{countAs, mostBlocks};
 ghost use Rattle.carried_over.specs.Carried.{carriedOf};
 ghost use Rattle.load_count.specs.ByRuns.{loadsBy, countBy};
 use carried_over::carried;
-use judge::refusal_of;
-use judge::rule_on;
 use paper::Counted;
-use paper::Judged;
 use paper::Reading;
 use paper::Refusal;
 
@@ -35,7 +33,7 @@ fn loads_in(rd: Reading, starts: &[u32; 33], ends: &[u32; 33], blocks: u64) -> u
 }
 
 // The count, or that there are too many blocks.
-fn count_in(rd: Reading, starts: &[u32; 33], ends: &[u32; 33], blocks: u64) -> Counted
+pub fn count_in(rd: Reading, starts: &[u32; 33], ends: &[u32; 33], blocks: u64) -> Counted
     requires { ⌜ (rd .engines ≤ 32) × (rd .runs ≤ 128) × (carriedOf (now starts) (now ends) (rd .engines) ≤ rd .runs) ⌝ }
     ensures { λ r. ⌜ countAs r ≡ countBy (rd .runs) (carriedOf (now (starts .entry)) (now (ends .entry)) (rd .engines)) blocks ⌝ }
 {
@@ -46,18 +44,4 @@ fn count_in(rd: Reading, starts: &[u32; 33], ends: &[u32; 33], blocks: u64) -> C
         });
     }
     Counted::Loads(loads_in(rd, starts, ends, blocks))
-}
-
-// The loads of the first blocks of a table.
-pub fn count(b: &[u8], blocks: u64) -> Counted
-    ensures { λ r. ⌜ countAs r ≡ counted (now (b .entry)) blocks ⌝ }
-{
-    let ruling = rule_on(b);
-    let starts = ruling.starts;
-    let ends = ruling.ends;
-    let judged = ruling.judged;
-    match judged {
-        Judged::Accepted(rd) => count_in(rd, &starts, &ends, blocks),
-        Judged::Bad(fault) => Counted::Refused(refusal_of(fault)),
-    }
 }

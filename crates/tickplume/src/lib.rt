@@ -5,7 +5,7 @@ ghost use mathlib.Core.Path.{_≡_};
 ghost use Rattle.paper.specs.Outcome.{leaves};
 ghost use Rattle.paper.specs.Wanted.{wanted};
 ghost use Rattle.paper.specs.Face.{Tells, buildCall, buildEntries, judgeCall, questionCall, startCall, rowCall, nextCall, countCall};
-use dispatcher::Dispatcher;
+use asked::Dispatcher;
 use face_entries::put_reading;
 use face_entries::put_reply;
 use face_entries::too_short;
@@ -74,7 +74,7 @@ pub extern "C" fn tickplume_question(
     if answer.len() < 2 {
         return too_short(2);
     }
-    match question::question(table, Engine(engine), tick) {
+    match asked::question(table, Engine(engine), tick) {
         Answer::Refused(why) => word_of(why),
         Answer::Replies(reply) => {
             put_reply(answer, reply);
@@ -139,7 +139,7 @@ pub extern "C" fn tickplume_count(table: &[u8], blocks: u64, answer: &mut [u64])
     if answer.len() < 1 {
         return too_short(1);
     }
-    match load_count::count(table, blocks) {
+    match asked::count(table, blocks) {
         Counted::Refused(why) => word_of(why),
         Counted::Loads(loads) => {
             answer[0] = loads;

@@ -1,13 +1,14 @@
 -- `advance`: 20, then 21, else the block after.
 -- Assumes nothing.
 use mathlib.Core.Path.{sym}
+use native.Mathlib.Omega.{arith}
 use borrow.Author.Needs.{needs}
 use Rattle.dispatch_state.proofs.Deciding.{step-foreign, step-last, step-is}
 use Rattle.dispatch_state.proofs.advance.Statement.{statement}
 use Rattle.dispatch_state.proofs.advance.Tie as tie
 
 is-own-requires : tie.Need-is-own-requires
-is-own-requires c κs = search needs
+is-own-requires c κs = c .pre
 
 returns : tie.Need-returns
 returns c =
@@ -20,7 +21,7 @@ returns-2 c =
     sym (step-last _ (args .engines) (args .block) (args .rows) (c .before .before .is-own .ensures) (search needs) (search needs))
 
 add-next : tie.Need-add-next
-add-next c = search needs
+add-next c = omega arith
 
 returns-3 : tie.Need-returns-3
 returns-3 c =

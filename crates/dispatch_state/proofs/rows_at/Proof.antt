@@ -3,7 +3,6 @@
 use Prim.Native.Nat.{_-_, _≤_}
 use mathlib.Core.Path.{_≡_, ap}
 use native.Mathlib.Omega.{arith}
-use borrow.Author.Needs.{needs}
 use Rattle.laws.proofs.Lists.{Filled, filled-none, filled-more}
 use Rattle.paper.specs.declared.Row.{Row}
 use Rattle.paper.specs.Duties.{engine}
@@ -20,30 +19,30 @@ abbrev μ-loop : tie.MeasureT-loop
 μ-loop engines starts ends block rows₀ i₀ rows i = engines - i
 
 loop-holds : tie.Need-loop-holds Inv-loop μ-loop
-loop-holds c = (search needs, filled-none _ 32)
+loop-holds c = (omega arith, filled-none _ 32)
 
 cast-at : tie.Need-cast-at Inv-loop μ-loop
-cast-at c = search needs
+cast-at c = omega arith
 
 row-in-requires : tie.Need-row-in-requires Inv-loop μ-loop
-row-in-requires c κs = search needs
+row-in-requires c κs = omega arith
 
 mul-rows : tie.Need-mul-rows Inv-loop μ-loop
-mul-rows c = search needs
+mul-rows c = omega arith
 
 array-write-rows : tie.Need-array-write-rows Inv-loop μ-loop
-array-write-rows c = search needs
+array-write-rows c = omega arith
 
 add-i : tie.Need-add-i Inv-loop μ-loop
-add-i c = search needs
+add-i c = omega arith
 
 loop-less : tie.Need-loop-less Inv-loop μ-loop
-loop-less c = search needs
+loop-less c = omega arith
 
 loop-again : tie.Need-loop-again Inv-loop μ-loop
 loop-again c =
     let loop = c .before .before .loop in
-    (search needs, filled-more _ 32 (loop .i) _ _ (loop .inv .1) (search needs) (ap (λ (r : Row). r .0) (c .row-in .ensures)))
+    (omega arith, filled-more _ 32 (loop .i) _ _ (loop .inv .1) (omega arith) (ap (λ (r : Row). r .0) (c .row-in .ensures)))
 
 returns : tie.Need-returns Inv-loop μ-loop
 returns c =

@@ -22,7 +22,9 @@ over-blocks-requires : tie.Need-over-blocks-requires
 over-blocks-requires c κs = search needs
 
 returns-2 : tie.Need-returns-2
-returns-2 c = c .over-blocks .ensures ∙ rw (ne-eqb (c .before .before .before .before .args .blocks) 0 (c .before .before .before .if1 .left), c .before .before .carried .ensures .0)
+returns-2 c =
+    let at = c .before .before in
+    c .over-blocks .ensures ∙ rw (ne-eqb (at .before .before .args .blocks) 0 (at .before .if1 .left), ← at .carried .ensures .0)
 
 pub loads-in-spec : {M : Type 1} → statement M
 loads-in-spec =

@@ -1,10 +1,16 @@
 -- `over_blocks`: the product is at most 10^12 times 128, so nothing wraps.
 -- Assumes nothing.
+use Prim.Native.Nat.{_-_, _*_, _≤_}
+use native.Mathlib.Nat.{mul-le-mul}
 use native.Mathlib.Omega.{arith}
 use borrow.Author.Needs.{needs}
-use Rattle.load_count.proofs.Counting.{loads-fit}
+use Rattle.paper.specs.Answers.{mostBlocks}
 use Rattle.load_count.proofs.over_blocks.Statement.{statement}
 use Rattle.load_count.proofs.over_blocks.Tie as tie
+
+-- the loads after the first block fit 64 bits
+fits : (c : tie.Start) → (c .args .blocks - 1) * (c .args .loads - c .args .kept) ≤ mostBlocks * 128
+fits c = mul-le-mul {n₂ = mostBlocks} {m₂ = 128} (omega arith) (omega arith)
 
 sub-result : tie.Need-sub-result
 sub-result c = search needs
@@ -13,10 +19,10 @@ sub-result-2 : tie.Need-sub-result-2
 sub-result-2 c = search needs
 
 mul-result : tie.Need-mul-result
-mul-result c = omega (arith, loads-fit (c .args .blocks) (c .args .loads) (c .args .kept) (search needs) (search needs))
+mul-result c = omega (arith, fits c)
 
 add-result : tie.Need-add-result
-add-result c = omega (arith, loads-fit (c .args .blocks) (c .args .loads) (c .args .kept) (search needs) (search needs))
+add-result c = omega (arith, fits c)
 
 returns : tie.Need-returns
 returns c = search needs

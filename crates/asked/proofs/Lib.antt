@@ -1,0 +1,3 @@
+mod Unpacked
+mod Rows
+mod Counting
