@@ -1,9 +1,9 @@
 -- `put_end`: the kind, then its one field, each behind the last.
 -- Assumes nothing.
+use mathlib.Core.Path.{_∙_}
 use mathlib.Core.List.{[]}
 use native.Mathlib.Nat.{le-refl}
 use native.Mathlib.Omega.{arith}
-use borrow.Author.Needs.{needs}
 use Rattle.laws.specs.Digits.{digits}
 use Rattle.laws.proofs.Writing.{begun, more, done}
 use Rattle.paper.specs.Bytes.{endBytes}
@@ -11,22 +11,16 @@ use Rattle.record_write.proofs.put_end.Statement.{statement}
 use Rattle.record_write.proofs.put_end.Tie as tie
 
 put-field-requires : tie.Need-put-field-requires
-put-field-requires c κs = search needs
+put-field-requires c κs = omega arith
 
 sub-put-field : tie.Need-sub-put-field
 sub-put-field c = omega arith
 
-part-put-field-start : tie.Need-part-put-field-start
-part-put-field-start c = sub-put-field c
-
-part-put-field-end : tie.Need-part-put-field-end
-part-put-field-end c = le-refl _
-
 put-field-requires-2 : tie.Need-put-field-requires-2
-put-field-requires-2 c κs = search needs
+put-field-requires-2 c κs = omega arith
 
 same-length : tie.Need-same-length
-same-length c = search needs
+same-length c = c .before .out2 .given .1 ∙ c .before .before .before .before .before .out .given
 
 returns : tie.Need-returns
 unfolding endBytes digits
@@ -44,8 +38,8 @@ put-end-spec =
     (tie.spec
     put-field-requires
     sub-put-field
-    part-put-field-start
-    part-put-field-end
+    sub-put-field
+    (λ c. le-refl _)
     put-field-requires-2
     same-length
     returns)
