@@ -5,8 +5,8 @@ use borrow.Author.Needs.{needs}
 use Rattle.record_read.specs.Formed.{tableOf}
 use Rattle.record_read.proofs.Table.{table-ticks}
 use Rattle.table_tally.proofs.Tallied.{units-told}
-use Rattle.judge_duties.proofs.is_wrong_sum.Statement.{statement}
-use Rattle.judge_duties.proofs.is_wrong_sum.Tie as tie
+use Rattle.judge_lowest.proofs.is_wrong_sum.Statement.{statement}
+use Rattle.judge_lowest.proofs.is_wrong_sum.Tie as tie
 
 mul-result : tie.Need-mul-result
 mul-result c = search needs

@@ -9,8 +9,8 @@ use Rattle.paper.specs.Duties.{dutyAt}
 use Rattle.paper.specs.Words.{whole}
 use Rattle.paper.specs.Builder.{badSlice}
 use Rattle.record_read.specs.Formed.{tableOf}
-use Rattle.judge_duties.proofs.bad_slice.Statement.{statement}
-use Rattle.judge_duties.proofs.bad_slice.Tie as tie
+use Rattle.judge_lowest.proofs.bad_slice.Statement.{statement}
+use Rattle.judge_lowest.proofs.bad_slice.Tie as tie
 
 abbrev Inv-loop : tie.InvT-loop
 Inv-loop b rd n t d₀ d = Seeking (λ k. not (whole (rd .«block_length») (dutyAt (tableOf b rd .duties) k))) (rd .duties) d

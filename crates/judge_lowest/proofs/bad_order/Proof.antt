@@ -7,8 +7,8 @@ use Rattle.laws.proofs.Search.{Seeking, seek-none, seek-more, seek-hit, seek-mi
 use Rattle.paper.specs.Rules.{unordered, badOrder}
 use Rattle.record_read.specs.Formed.{tableOf}
 use Rattle.record_read.proofs.Table.{table-runs}
-use Rattle.judge_pairs.proofs.bad_order.Statement.{statement}
-use Rattle.judge_pairs.proofs.bad_order.Tie as tie
+use Rattle.judge_lowest.proofs.bad_order.Statement.{statement}
+use Rattle.judge_lowest.proofs.bad_order.Tie as tie
 
 abbrev Inv-loop : tie.InvT-loop
 Inv-loop b rd n k₀ k = Seeking (unordered (tableOf b rd .runs)) (rd .runs) k

@@ -1,11 +1,11 @@
 -- `is_unordered`: run 0 has no forerunner, every other is compared with it.
 -- Assumes nothing.
 use mathlib.Core.Path.{sym}
-use Rattle.judge_pairs.proofs.Forerunners.{unordered-after}
+use Rattle.judge_lowest.proofs.Forerunners.{unordered-after}
 use Rattle.paper.specs.Rules.{unordered}
 use borrow.Author.Needs.{needs}
-use Rattle.judge_pairs.proofs.is_unordered.Statement.{statement}
-use Rattle.judge_pairs.proofs.is_unordered.Tie as tie
+use Rattle.judge_lowest.proofs.is_unordered.Statement.{statement}
+use Rattle.judge_lowest.proofs.is_unordered.Tie as tie
 
 returns : tie.Need-returns
 unfolding unordered

@@ -8,9 +8,9 @@ use Rattle.laws.specs.Divisor.{gcd, gcdOf}
 use Rattle.paper.specs.Words.{blockLengthOf}
 use Rattle.record_read.specs.Formed.{tableOf}
 use Rattle.record_read.proofs.Table.{table-duties}
-use Rattle.judge_duties.proofs.Periods.{periodsFrom, periods-start, periods-further, periods-finished}
-use Rattle.judge_duties.proofs.block_length_of.Statement.{statement}
-use Rattle.judge_duties.proofs.block_length_of.Tie as tie
+use Rattle.judge_lowest.proofs.Periods.{periodsFrom, periods-start, periods-further, periods-finished}
+use Rattle.judge_lowest.proofs.block_length_of.Statement.{statement}
+use Rattle.judge_lowest.proofs.block_length_of.Tie as tie
 
 abbrev Inv-loop : tie.InvT-loop
 Inv-loop b rd n g₀ d₀ g d = (d ≤ rd .duties) × (gcd g (gcdOf (periodsFrom d (tableOf b rd .duties))) ≡ blockLengthOf (tableOf b rd .duties))

@@ -1,1 +1,2 @@
+mod Periods
 mod Forerunners

@@ -3,18 +3,16 @@
 use Prim.Native.Nat.{_-_}
 use mathlib.Core.Path.{sym, _∙_}
 use borrow.Author.Needs.{needs}
-use Rattle.laws.specs.Search.{any}
 use Rattle.laws.proofs.Search.{Seeking, seek-none, seek-more, seek-hit, seek-miss}
-use Rattle.paper.specs.Words.{runAt}
 use Rattle.paper.specs.Rules.{lowest}
 use Rattle.record_read.specs.Formed.{tableOf}
 use Rattle.record_read.proofs.Table.{table-runs}
-use Rattle.judge_pairs.specs.Clash.{clashOf}
-use Rattle.judge_pairs.proofs.lowest_clash.Statement.{statement}
-use Rattle.judge_pairs.proofs.lowest_clash.Tie as tie
+use Rattle.judge_lowest.specs.Breaks.{clashed}
+use Rattle.judge_lowest.proofs.lowest_clash.Statement.{statement}
+use Rattle.judge_lowest.proofs.lowest_clash.Tie as tie
 
 abbrev Inv-loop : tie.InvT-loop
-Inv-loop b rd kind n k₀ k = Seeking (λ i. any (λ j. clashOf kind (runAt (tableOf b rd .runs) j) (runAt (tableOf b rd .runs) i)) i) (rd .runs) k
+Inv-loop b rd kind n k₀ k = Seeking (clashed kind (tableOf b rd .runs)) (rd .runs) k
 
 abbrev μ-loop : tie.MeasureT-loop
 μ-loop b rd kind n k₀ k = rd .runs - k

@@ -6,9 +6,9 @@ use borrow.Author.Needs.{needs}
 use Rattle.laws.proofs.Search.{Seeking, seek-none, seek-more, seek-any, seek-not-any}
 use Rattle.paper.specs.Words.{runAt}
 use Rattle.record_read.specs.Formed.{tableOf}
 use Rattle.judge_pairs.specs.Clash.{clashOf}
-use Rattle.judge_pairs.proofs.clashes.Statement.{statement}
-use Rattle.judge_pairs.proofs.clashes.Tie as tie
+use Rattle.judge_lowest.proofs.clashes.Statement.{statement}
+use Rattle.judge_lowest.proofs.clashes.Tie as tie
 
 abbrev Inv-loop : tie.InvT-loop
 Inv-loop b rd kind k y j₀ j = Seeking (λ i. clashOf kind (runAt (tableOf b rd .runs) i) (runAt (tableOf b rd .runs) k)) k j

@@ -2,20 +2,17 @@
 -- Assumes nothing.
 use Prim.Native.Nat.{_-_}
 use mathlib.Core.Path.{sym, _∙_}
-use mathlib.Core.Bool.{not}
 use borrow.Author.Needs.{needs}
-use lib.Dec.{eqb}
 use Rattle.laws.proofs.Search.{Seeking, seek-none, seek-more, seek-hit, seek-miss}
-use Rattle.paper.specs.Duties.{dutyAt}
-use Rattle.paper.specs.Words.{slice}
-use Rattle.paper.specs.Rules.{unitsOf, badSum}
+use Rattle.paper.specs.Rules.{badSum}
 use Rattle.record_read.specs.Formed.{tableOf}
 use Rattle.record_read.proofs.Table.{table-duties}
-use Rattle.judge_duties.proofs.bad_sum.Statement.{statement}
-use Rattle.judge_duties.proofs.bad_sum.Tie as tie
+use Rattle.judge_lowest.specs.Breaks.{wrongSum}
+use Rattle.judge_lowest.proofs.bad_sum.Statement.{statement}
+use Rattle.judge_lowest.proofs.bad_sum.Tie as tie
 
 abbrev Inv-loop : tie.InvT-loop
-Inv-loop b rd units n i₀ i = Seeking (λ d. not (eqb (unitsOf (tableOf b rd .runs) d) (slice (tableOf b rd .ticks) (dutyAt (tableOf b rd .duties) d)))) (rd .duties) i
+Inv-loop b rd units n i₀ i = Seeking (wrongSum (tableOf b rd)) (rd .duties) i
 
 abbrev μ-loop : tie.MeasureT-loop
 μ-loop b rd units n i₀ i = rd .duties - i

@@ -1,0 +1,140 @@
+// Of each rule the lowest duty or run of a table's bytes in good form that breaks it: 12, a slice that is not whole; 13, a run that is
+// not after its forerunner; 14, 15 and 16, a run that clashes with an earlier one; 17, runs that do not add up to the slice. Rule 11
+// has no place: here is the block length that it asks for.
+ghost use mathlib.Core.Path.{_≡_};
+ghost use Prim.Native.Nat.{_<_};
+ghost use Rattle.paper.specs.Words.{blockLengthOf};
+ghost use Rattle.paper.specs.Builder.{badSlice};
+ghost use Rattle.paper.specs.Rules.{unordered, badOrder, lowest, badSum};
+ghost use Rattle.record_read.specs.Formed.{Formed, tableOf};
+ghost use Rattle.table_tally.specs.Tally.{unitsIn};
+ghost use Rattle.judge_pairs.specs.Clash.{clashOf};
+ghost use Rattle.judge_lowest.specs.Breaks.{clashed, wrongSum};
+use judge_pairs::Clash;
+use judge_pairs::do_clash;
+use judge_pairs::is_before;
+use paper::Reading;
+use record_read::duty_of;
+use record_read::run_of;
+use slices::gcd_of;
+use slices::is_whole;
+use slices::slice_of;
+
+// The greatest common divisor of all periods.
+pub fn block_length_of(b: &[u8], rd: Reading) -> u32
+    requires { ⌜ Formed (now b) rd ⌝ }
+    ensures { λ r. ⌜ r ≡ blockLengthOf (tableOf (now (b .entry)) rd .duties) ⌝ }
+{
+    let n = rd.duties as usize;
+    let mut g: u32 = 0;
+    let mut d = 0;
+    while d < n {
+        g = gcd_of(g, duty_of(b, rd, d).period);
+        d += 1;
+    }
+    g
+}
+
+// The lowest duty with a slice that is not whole, or how many duties there are.
+pub fn bad_slice(b: &[u8], rd: Reading) -> usize
+    requires { ⌜ Formed (now b) rd ⌝ }
+    ensures { λ r. ⌜ r ≡ badSlice (tableOf (now (b .entry)) rd .ticks) (tableOf (now (b .entry)) rd .duties) ⌝ }
+{
+    let n = rd.duties as usize;
+    let t = rd.block_length;
+    let mut d = 0;
+    while d < n {
+        if !is_whole(t, duty_of(b, rd, d)) {
+            return d;
+        }
+        d += 1;
+    }
+    d
+}
+
+// Whether run k is not after its forerunner; run 0 has none.
+fn is_unordered(b: &[u8], rd: Reading, k: usize) -> bool
+    requires { ⌜ Formed (now b) rd ⌝ }
+    requires { ⌜ k < rd .runs ⌝ }
+    ensures { λ r. ⌜ r ≡ unordered (tableOf (now (b .entry)) rd .runs) k ⌝ }
+{
+    if k == 0 {
+        return false;
+    }
+    !is_before(run_of(b, rd, k - 1), run_of(b, rd, k))
+}
+
+// The lowest run that is not after its forerunner, or how many runs there are.
+pub fn bad_order(b: &[u8], rd: Reading) -> usize
+    requires { ⌜ Formed (now b) rd ⌝ }
+    ensures { λ r. ⌜ r ≡ badOrder (tableOf (now (b .entry)) rd) ⌝ }
+{
+    let n = rd.runs as usize;
+    let mut k = 0;
+    while k < n {
+        if is_unordered(b, rd, k) {
+            return k;
+        }
+        k += 1;
+    }
+    k
+}
+
+// Whether run k clashes so with an earlier one.
+fn clashes(b: &[u8], rd: Reading, kind: Clash, k: usize) -> bool
+    requires { ⌜ Formed (now b) rd ⌝ }
+    requires { ⌜ k < rd .runs ⌝ }
+    ensures { λ r. ⌜ r ≡ clashed kind (tableOf (now (b .entry)) rd .runs) k ⌝ }
+{
+    let y = run_of(b, rd, k);
+    let mut j = 0;
+    while j < k {
+        if do_clash(kind, run_of(b, rd, j), y) {
+            return true;
+        }
+        j += 1;
+    }
+    false
+}
+
+// The lowest run that clashes so with an earlier one, or how many runs there are.
+pub fn lowest_clash(b: &[u8], rd: Reading, kind: Clash) -> usize
+    requires { ⌜ Formed (now b) rd ⌝ }
+    ensures { λ r. ⌜ r ≡ lowest (clashOf kind) (tableOf (now (b .entry)) rd .runs) ⌝ }
+{
+    let n = rd.runs as usize;
+    let mut k = 0;
+    while k < n {
+        if clashes(b, rd, kind, k) {
+            return k;
+        }
+        k += 1;
+    }
+    k
+}
+
+// Whether the runs of duty i do not add up to its slice, by the units of each duty.
+fn is_wrong_sum(b: &[u8], rd: Reading, units: &[u32; 64], i: usize) -> bool
+    requires { ⌜ Formed (now b) rd ⌝ }
+    requires { ⌜ (now units ≡ unitsIn (tableOf (now b) rd)) × (i < rd .duties) ⌝ }
+    ensures { λ r. ⌜ r ≡ wrongSum (tableOf (now (b .entry)) rd) i ⌝ }
+{
+    units[i] != slice_of(rd.block_length, duty_of(b, rd, i))
+}
+
+// The lowest duty whose runs do not add up to its slice, or how many duties there are.
+pub fn bad_sum(b: &[u8], rd: Reading, units: &[u32; 64]) -> usize
+    requires { ⌜ Formed (now b) rd ⌝ }
+    requires { ⌜ now units ≡ unitsIn (tableOf (now b) rd) ⌝ }
+    ensures { λ r. ⌜ r ≡ badSum (tableOf (now (b .entry)) rd) ⌝ }
+{
+    let n = rd.duties as usize;
+    let mut i = 0;
+    while i < n {
+        if is_wrong_sum(b, rd, units, i) {
+            return i;
+        }
+        i += 1;
+    }
+    i
+}
