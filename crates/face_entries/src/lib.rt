@@ -1,40 +1,22 @@
-// What the outside face hands over: words, and the entries of lent answers.
+// Lists that a caller of the face lends: the entries of answers put; a dispatcher's state, the block and then the rows, taken and put; and
+// what a dispatcher hands back, handed over.
 ghost use mathlib.Core.Path.{_≡_};
-ghost use Prim.Native.Nat.{_+_, _*_, _≤_, _<_, min};
+ghost use mathlib.Core.List.{_∷_};
+ghost use Prim.Native.Nat.{_≤_};
 ghost use lib.ListN.{length};
 ghost use Rattle.laws.specs.Lists.{over};
-ghost use Rattle.paper.specs.Outcome.{mostPlace};
-ghost use Rattle.paper.specs.Face.{readingEntries, heldEntry, replyEntries};
-use paper::Held;
+ghost use Rattle.paper.specs.Outcome.{verdictAs};
+ghost use Rattle.paper.specs.Face.{Tells, entries, readingEntries, replyEntries, stateEntries};
+ghost use Rattle.face_entries.specs.InWord.{InWord};
+ghost use Rattle.face_entries.specs.Cut.{cutState};
+use face_words::held_entry;
+use face_words::narrow;
+use face_words::word_of;
+use paper::Dispatched;
 use paper::Reading;
-use paper::Refusal;
 use paper::Reply;
-
-// A refusal as a word.
-pub fn word_of(why: Refusal) -> u64
-    requires { ⌜ (why .number < 256) × (why .place ≤ mostPlace) ⌝ }
-    ensures { λ r. ⌜ r ≡ why .number + 256 * why .place ⌝ }
-{
-    why.number as u64 + 256 * why.place as u64
-}
-
-// The word for a lent list that is too short, with the entries needed.
-pub fn too_short(needed: usize) -> u64
-    requires { ⌜ needed ≤ mostPlace ⌝ }
-    ensures { λ r. ⌜ r ≡ 255 + 256 * needed ⌝ }
-{
-    word_of(Refusal {
-        number: 255,
-        place: needed,
-    })
-}
-
-// An entry of a lent state as a row number; one that is too large becomes a number that no row has.
-pub fn narrow(x: u64) -> u32
-    ensures { λ r. ⌜ r ≡ min x 4294967295 ⌝ }
-{
-    if x < 4294967295 { x as u32 } else { 4294967295 }
-}
+use paper::State;
+use paper::Verdict;
 
 // A table's reading put into a lent answer: block length, engines, duties, runs.
 pub fn put_reading(answer: &mut [u64], rd: Reading)
@@ -47,16 +29,6 @@ pub fn put_reading(answer: &mut [u64], rd: Reading)
     answer[3] = rd.runs as u64;
 }
 
-// What holds a tick as one entry: the duty, or the mark for idle.
-fn held_entry(held: Held) -> u64
-    ensures { λ r. ⌜ r ≡ heldEntry held ⌝ }
-{
-    match held {
-        Held::By(duty) => duty as u64,
-        Held::Idle => 18446744073709551615,
-    }
-}
-
 // A reply put into a lent answer: the row, and the duty or the mark for idle.
 pub fn put_reply(answer: &mut [u64], reply: Reply)
     requires { ⌜ 2 ≤ length (now answer) ⌝ }
@@ -65,4 +37,49 @@ pub fn put_reply(answer: &mut [u64], reply: Reply)
     let held = reply.held;
     answer[0] = reply.row.0 as u64;
     answer[1] = held_entry(held);
+}
+
+// The state in a lent list; an entry too large for a row becomes a number that no row has.
+pub fn state_in(state: &[u64]) -> State
+    requires { ⌜ 33 ≤ length (now state) ⌝ }
+    ensures { λ r. ⌜ r ≡ cutState (now (state .entry)) ⌝ }
+{
+    let mut rows = [0u32; 32];
+    let mut e = 0;
+    while e < 32 {
+        rows[e] = narrow(state[e + 1]);
+        e += 1;
+    }
+    let block = state[0];
+    State { block, rows }
+}
+
+// A block and its rows put into a lent state.
+pub fn put_state(state: &mut [u64], block: u64, rows: [u32; 32])
+    requires { ⌜ 33 ≤ length (now state) ⌝ }
+    ensures { λ r. ⌜ now (state .exit) ≡ over (block ∷ rows) (now (state .entry)) ⌝ }
+{
+    state[0] = block;
+    let mut e = 0;
+    while e < 32 {
+        state[e + 1] = rows[e] as u64;
+        e += 1;
+    }
+}
+
+// What a dispatcher hands back as a word, and as the entries of its state where it is done.
+pub fn hand_over(done: Dispatched, state: &mut [u64]) -> u64
+    requires { ⌜ InWord (done .verdict) × (33 ≤ length (now state)) ⌝ }
+    ensures { λ r. ⌜ Tells (entries stateEntries (verdictAs (done .verdict) (done .state))) r (now (state .entry)) (now (state .exit)) ⌝ }
+{
+    let verdict = done.verdict;
+    match verdict {
+        Verdict::Refused(why) => word_of(why),
+        Verdict::Done => {
+            let next = done.state;
+            let rows = next.rows;
+            put_state(state, next.block, rows);
+            0
+        }
+    }
 }

@@ -16,6 +16,7 @@ use Rattle.paper.specs.Face.{Tells, buildCall, buildEntries}
 use Rattle.paper.proofs.Outcomes.{answered, answer-one, then-refused}
 use Rattle.plan_laws.proofs.Listed.{build-listed}
 use Rattle.face_entries.proofs.Stored.{stored-one}
+use Rattle.tickplume.proofs.Telling.{listed-fits}
 
 -- what an outcome of the builder leaves: the word and the answer, and the table
 abbrev pub Left : Outcome (List ℕ) → ℕ → List ℕ → List ℕ → List ℕ → List ℕ → Type 0
@@ -26,15 +27,17 @@ refused-is : {o : Outcome (List ℕ)} {r : Written} {x : Refusal} {before after 
 refused-is {o} w q = then-refused o length _ _ (sym (w .said) ∙ ap writtenAs q)
 
 -- it wrote a table
-left-answer : (o : Outcome (List ℕ)) (k : ℕ) (table table′ lent : List ℕ) → lengthOf o ≡ answer k → table′ ≡ leaves o table → 1 ≤ length lent → Left o 0 table table′ lent (set lent 0 k)
+left-answer : (o : Outcome (List ℕ)) (k : ℕ) (table table′ lent : List ℕ) → lengthOf o ≡ answer k → table′ ≡ leaves o table → 1 ≤ length lent
+    → Left o 0 table table′ lent (set lent 0 k)
 left-answer (refused n p) k table table′ lent e h l = answered k n p (sym e)
 left-answer (answer w) k table table′ lent e h l =
     (record { said = refl; left = stored-one k lent l ∙ ap (λ n. over (n ∷ []) lent) (sym (answer-one (length w) k e)) }, h)
 
 module _ (x : Wanted) (table : List ℕ) where
   -- a refusal of the builder has a number that fits a byte, and a place within the bound
-  pub build-fits : {table′ : List ℕ} {r : Written} {why : Refusal} → Writes (build x (length table)) r table table′ → r ≡ Refused why → (why .number < 256) × (why .place ≤ mostPlace)
-  build-fits w q = let z = build-listed x (length table) _ _ (refused-is w q) in (z .byte, z .place)
+  pub build-fits : {table′ : List ℕ} {r : Written} {why : Refusal} → Writes (build x (length table)) r table table′ → r ≡ Refused why
+      → (why .number < 256) × (why .place ≤ mostPlace)
+  build-fits w q = listed-fits (build-listed x (length table)) (refused-is w q)
 
   -- the lent answer is too short
   pub build-short : (lent : List ℕ) (word : ℕ) → length lent < 1 → word ≡ 511 → Left (buildCall x table lent) word table table lent lent

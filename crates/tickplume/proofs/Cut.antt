@@ -1,7 +1,7 @@
 -- What is asked by a lent state comes to the same whether its entries are cut to 32 bits or not: the rows of an accepted table are below its
 -- engines, far below the cut; and bytes that are not accepted are refused before the state is looked at.
 -- Assumes nothing.
-use Prim.Native.Nat.{ℕ, _+_, _<_, min}
+use Prim.Native.Nat.{ℕ, _+_, _<_}
 use mathlib.Core.Path.{_≡_, refl, ap, _∙_}
 use mathlib.Core.List.{List}
 use native.Mathlib.Omega.{arith}
@@ -9,7 +9,7 @@ use lib.Dec.{ltb}
 use lib.ListN.{getD}
 use borrow.Author.Tests.{ltb-true}
 use Rattle.laws.specs.Choice.{pick}
-use Rattle.laws.specs.Lists.{tab, same-list}
+use Rattle.laws.specs.Lists.{same-list}
 use Rattle.laws.proofs.Cases.{by-cases}
 use Rattle.paper.specs.declared.Row.{Row}
 use Rattle.paper.specs.declared.Engine.{Engine}
@@ -27,11 +27,8 @@ use Rattle.table_laws.proofs.AcceptedBytes.{accepted-ranged}
 use Rattle.paper.proofs.Links.{closed, rows-end}
 use Rattle.paper.proofs.Rotation.{row-below}
 use Rattle.paper.specs.Face.{stateIn}
-use Rattle.tickplume.proofs.Narrowed.{most, entries-cut}
-
--- the state with its entries cut
-abbrev pub cutState : List ℕ → State
-cutState l = record { block = getD l 0 0; rows = tab 32 (λ e. min (getD l (e + 1) 0) most) }
+use Rattle.face_entries.specs.Cut.{most, cutState}
+use Rattle.tickplume.proofs.Narrowed.{entries-cut}
 
 -- a row of a block is small
 rows-small : (t : Table) → Ranged small t → (b e : ℕ) → pick (ltb e (t .engines)) (rowAt (link t) b (engine e) .0) 0 < most
@@ -41,39 +38,29 @@ rows-small t g b e =
     (λ p. rw p (omega arith))
 
 -- so the cut state is the one for its block where the state is
-own-same : (t : Table) → Ranged small t → (l : List ℕ) → same-list (cutState l .rows) (rowsAt t (getD l 0 0)) ≡ same-list (stateIn l .rows) (rowsAt t (getD l 0 0))
+own-same : (t : Table) → Ranged small t → (l : List ℕ)
+    → same-list (cutState l .rows) (rowsAt t (getD l 0 0)) ≡ same-list (stateIn l .rows) (rowsAt t (getD l 0 0))
 unfolding rowsAt
 own-same t g l =
-    entries-cut (λ e. getD l (e + 1) 0) (λ e. pick (ltb e (t .engines)) (rowAt (link t) (getD l 0 0) (engine e) .0) 0)
-    (λ e h. rows-small t g (getD l 0 0) e)
+    entries-cut 32 (λ e. getD l (e + 1) 0) (λ e. pick (ltb e (t .engines)) (rowAt (link t) (getD l 0 0) (engine e) .0) 0)
+    (rows-small t g (getD l 0 0))
 
 -- what is asked of accepted bytes, where two ways to ask it come to the same for each table in range
-asked-same : {A : Type 0} (b : List ℕ) (f g : Table → Outcome A) → ((t : Table) → Ranged small t → f t ≡ g t) → andThen (accepted b) f ≡ andThen (accepted b) g
+asked-same : {A : Type 0} (b : List ℕ) (f g : Table → Outcome A) → ((t : Table) → Ranged small t → f t ≡ g t)
+    → andThen (accepted b) f ≡ andThen (accepted b) g
 asked-same {A} b f g same = go (accepted b) refl
   where
     go : (o : Outcome Table) → accepted b ≡ o → andThen o f ≡ andThen o g
     go (refused n p) e = refl
     go (answer t) e = same t (accepted-ranged b t e)
 
--- the row
-pub row-cut : (b l : List ℕ) (e : Engine) → rowTold b (cutState l) e ≡ rowTold b (stateIn l) e
+-- asked by the state that was taken: the row
+pub row-asked : (b l : List ℕ) (e : Engine) {s : State} {o : Outcome Row} → s ≡ cutState l → o ≡ rowTold b s e → o ≡ rowTold b (stateIn l) e
 unfolding rowTold
-row-cut b l e = asked-same b _ _ (λ t g. rw (own-same t g l))
+row-asked b l e q h = h ∙ ap (λ s. rowTold b s e) q ∙ asked-same b _ _ (λ t g. rw (own-same t g l))
 
 -- the next state
-pub next-cut : (b l : List ℕ) → advanced b (cutState l) ≡ advanced b (stateIn l)
+pub next-asked : (b l : List ℕ) {s : State} {r : Dispatched} → s ≡ cutState l → Hands (advanced b s) r → Hands (advanced b (stateIn l)) r
 unfolding advanced
-next-cut b l = asked-same b _ _ (λ t g. rw (own-same t g l))
-
--- the block of a state and its entries cut to rows, asked for the row or for the next state
-abbrev AreCut : List ℕ → List ℕ → Type 0
-AreCut l rows = rows ≡ tab 32 (λ e. min (getD l (e + 1) 0) most)
-
-abbrev lentState : List ℕ → List ℕ → State
-lentState l rows = record { block = getD l 0 0; rows = rows }
-
-pub row-asked : (b l : List ℕ) (e : Engine) (rows : List ℕ) {o : Outcome Row} → AreCut l rows → o ≡ rowTold b (lentState l rows) e → o ≡ rowTold b (stateIn l) e
-row-asked b l e rows q h = h ∙ ap (λ rs. rowTold b (lentState l rs) e) q ∙ row-cut b l e
-
-pub next-asked : (b l : List ℕ) (rows : List ℕ) {r : Dispatched} → AreCut l rows → Hands (advanced b (lentState l rows)) r → Hands (advanced b (stateIn l)) r
-next-asked b l rows q h = rw (ap (λ rs. advanced b (lentState l rs)) q ∙ next-cut b l) at h
+next-asked b l q h =
+    let z : advanced b (cutState l) ≡ advanced b (stateIn l) = asked-same b _ _ (λ t g. rw (own-same t g l)) in rw (ap (advanced b) q ∙ z) at h

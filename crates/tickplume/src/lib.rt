@@ -6,18 +6,17 @@ ghost use Rattle.paper.specs.Outcome.{leaves};
 ghost use Rattle.paper.specs.Wanted.{wanted};
 ghost use Rattle.paper.specs.Face.{Tells, buildCall, buildEntries, judgeCall, questionCall, startCall, rowCall, nextCall, countCall};
 use asked::Dispatcher;
+use face_entries::hand_over;
 use face_entries::put_reading;
 use face_entries::put_reply;
-use face_entries::too_short;
-use face_entries::word_of;
-use face_states::hand_over;
-use face_states::rows_in;
+use face_entries::state_in;
+use face_words::too_short;
+use face_words::word_of;
 use paper::Answer;
 use paper::Counted;
 use paper::Engine;
 use paper::Judged;
 use paper::RowTold;
-use paper::State;
 use paper::Written;
 
 // SA1's plan of the duties, into the lent table.
@@ -105,9 +104,7 @@ pub extern "C" fn tickplume_row(table: &[u8], state: &[u64], engine: u32, answer
     if answer.len() < 1 {
         return too_short(1);
     }
-    let rows = rows_in(state);
-    let block = state[0];
-    let here = Dispatcher(State { block, rows });
+    let here = Dispatcher(state_in(state));
     match here.row(table, Engine(engine)) {
         RowTold::Refused(why) => word_of(why),
         RowTold::At(row) => {
@@ -125,9 +122,7 @@ pub extern "C" fn tickplume_next(table: &[u8], state: &mut [u64]) -> u64
     if state.len() < 33 {
         return too_short(33);
     }
-    let rows = rows_in(state);
-    let block = state[0];
-    let here = Dispatcher(State { block, rows });
+    let here = Dispatcher(state_in(state));
     hand_over(here.next(table), state)
 }
 

@@ -1,5 +1,7 @@
 -- `put_reply`: two entries stored one after the other.
 -- Assumes nothing.
+use native.Mathlib.Omega.{arith}
+use lib.ListN.{length-set}
 use borrow.Author.Needs.{needs}
 use Rattle.face_entries.proofs.Stored.{stored-two}
 use Rattle.face_entries.proofs.put_reply.Statement.{statement}
@@ -15,7 +17,7 @@ held-entry-requires : tie.Need-held-entry-requires
 held-entry-requires c κs = search needs
 
 slice-write-answer-2 : tie.Need-slice-write-answer-2
-slice-write-answer-2 c = search needs
+slice-write-answer-2 c = simp length-set (omega arith)
 
 same-length : tie.Need-same-length
 same-length c = search needs

@@ -1,12 +1,12 @@
 -- `tickplume_question`: the answer to the question as a word, or as a row with a duty or the mark for idle.
 -- Assumes nothing.
-use mathlib.Core.Path.{sym, ap, _∙_}
+use mathlib.Core.Path.{refl, sym, ap, _∙_}
 use borrow.Author.Needs.{needs}
-use Rattle.paper.specs.Duties.{engine}
-use Rattle.paper.specs.Answers.{question, answerAs}
+use borrow.Author.Tests.{lt-ltb}
+use Rattle.paper.specs.Answers.{answerAs}
 use Rattle.plan_laws.proofs.Listed.{question-listed}
-use Rattle.paper.specs.Face.{replyEntries, questionCall, entries}
-use Rattle.tickplume.proofs.Telling.{tell-short, tell-refused, tell-answer}
+use Rattle.paper.specs.Face.{replyEntries, questionCall}
+use Rattle.tickplume.proofs.Telling.{listed-fits, tell-refused, tell-answer}
 use Rattle.tickplume.proofs.tickplume_question.Statement.{statement}
 use Rattle.tickplume.proofs.tickplume_question.Tie as tie
 
@@ -15,9 +15,7 @@ too-short-requires c κs = search needs
 
 returns : tie.Need-returns
 unfolding questionCall
-returns c =
-    let args = c .before .before .before .before .args in
-    tell-short (entries replyEntries (question (args .table .now) (engine (args .engine)) (args .tick))) 2 _ (args .answer .now) (args .answer .now) (search needs) (c .too-short .ensures)
+returns c = rw (lt-ltb _ 2 (c .before .if1 .taken)) (record { said = c .too-short .ensures; left = refl })
 
 question-requires : tie.Need-question-requires
 question-requires c κs = search needs
@@ -26,31 +24,30 @@ enum-known-why : tie.Need-enum-known-why
 enum-known-why c = search needs
 
 word-of-requires : tie.Need-word-of-requires
-word-of-requires c κs =
-    let args = c .before .before .before .before .before .before .before .args in
-    let z = question-listed (args .table .now) (engine (args .engine)) (args .tick) _ _ (sym (c .before .before .before .question .ensures) ∙ ap answerAs (c .before .why .given .1)) in
-    (z .byte, z .place)
+word-of-requires c κs = listed-fits (question-listed _ _ _) (sym (c .before .before .before .question .ensures) ∙ ap answerAs (c .before .why .given .1))
 
 enum-known-reply : tie.Need-enum-known-reply
 enum-known-reply c = search needs
 
 put-reply-requires : tie.Need-put-reply-requires
-put-reply-requires c κs = search needs
+put-reply-requires c κs = c .before .before .before .before .before .if1 .left
 
 returns-2 : tie.Need-returns-2
 unfolding questionCall
 returns-2 c =
-    let args = c .before .before .before .before .before .before .before .before .args in
-    tell-refused replyEntries (question (args .table .now) (engine (args .engine)) (args .tick)) 2 _ _ _ (args .answer .now) (search needs) (sym (c .before .before .before .before .question .ensures) ∙ ap answerAs (c .before .before .why .given .1)) (c .word-of .ensures)
+    let at = c .before .before .before .before in
+    tell-refused replyEntries 2 (at .before .if1 .left)
+    (sym (at .question .ensures) ∙ ap answerAs (c .before .before .why .given .1)) (c .word-of .ensures)
 
 same-length : tie.Need-same-length
-same-length c = search needs
+same-length c = c .before .answer .given
 
 returns-3 : tie.Need-returns-3
 unfolding questionCall
 returns-3 c =
-    let args = c .before .before .before .before .before .before .before .before .before .before .before .args in
-    tell-answer replyEntries (question (args .table .now) (engine (args .engine)) (args .tick)) 2 _ (args .answer .now) _ (search needs) (sym (c .before .before .before .before .before .before .before .question .ensures) ∙ ap answerAs (c .before .before .before .before .before .reply .given .1)) (c .before .before .put-reply .ensures)
+    let at = c .before .before .before .before .before .before .before in
+    tell-answer replyEntries 2 (at .before .if1 .left)
+    (sym (at .question .ensures) ∙ ap answerAs (c .before .before .before .before .before .reply .given .1)) (c .before .before .put-reply .ensures)
 
 pub tickplume-question-spec : {M : Type 1} → statement M
 tickplume-question-spec =

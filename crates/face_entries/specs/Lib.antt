@@ -1,1 +1,2 @@
 pub mod InWord
+pub mod Cut

@@ -1,8 +1,8 @@
 -- `held_entry`: by the case of what holds the tick.
 -- Assumes nothing.
 use borrow.Author.Needs.{needs}
-use Rattle.face_entries.proofs.held_entry.Statement.{statement}
-use Rattle.face_entries.proofs.held_entry.Tie as tie
+use Rattle.face_words.proofs.held_entry.Statement.{statement}
+use Rattle.face_words.proofs.held_entry.Tie as tie
 
 enum-known-held : tie.Need-enum-known-held
 enum-known-held c = search needs

@@ -1,8 +1,8 @@
 -- `narrow`: the lesser of the entry and the largest number of 32 bits, by which of them it is.
 -- Assumes nothing.
 use borrow.Author.Needs.{needs}
-use Rattle.face_entries.proofs.narrow.Statement.{statement}
-use Rattle.face_entries.proofs.narrow.Tie as tie
+use Rattle.face_words.proofs.narrow.Statement.{statement}
+use Rattle.face_words.proofs.narrow.Tie as tie
 
 cast-result : tie.Need-cast-result
 cast-result c = search needs

@@ -1,8 +1,8 @@
 -- `word_of`: number and place fit one word.
 -- Assumes nothing.
 use borrow.Author.Needs.{needs}
-use Rattle.face_entries.proofs.word_of.Statement.{statement}
-use Rattle.face_entries.proofs.word_of.Tie as tie
+use Rattle.face_words.proofs.word_of.Statement.{statement}
+use Rattle.face_words.proofs.word_of.Tie as tie
 
 cast-result : tie.Need-cast-result
 cast-result c = search needs

@@ -2,8 +2,8 @@
 -- Assumes nothing.
 use mathlib.Core.Path.{refl}
 use borrow.Author.Needs.{needs}
-use Rattle.face_states.proofs.hand_over.Statement.{statement}
-use Rattle.face_states.proofs.hand_over.Tie as tie
+use Rattle.face_entries.proofs.hand_over.Statement.{statement}
+use Rattle.face_entries.proofs.hand_over.Tie as tie
 
 enum-known-verdict : tie.Need-enum-known-verdict
 enum-known-verdict c = search needs
@@ -24,7 +24,9 @@ same-length : tie.Need-same-length
 same-length c = search needs
 
 returns-2 : tie.Need-returns-2
-returns-2 c = rw (c .before .before .before .before .before .before .enum-told .given .1) (record { said = refl; left = c .before .before .put-state .ensures })
+returns-2 c =
+    rw (c .before .before .before .before .before .before .enum-told .given .1)
+    (record { said = refl; left = c .before .before .put-state .ensures })
 
 pub hand-over-spec : {M : Type 1} → statement M
 hand-over-spec =
