@@ -3,9 +3,11 @@ pub mod Cases
 pub mod Search
 pub mod Sum
 pub mod Divisor
+pub mod Multiple
 pub mod Lists
 pub mod Writing
 pub mod Listing
+pub mod Turned
 pub mod Fields
 pub mod Each
 pub mod Digits

@@ -118,28 +118,41 @@ getD-set l i v k x h same other =
     by-cases (eqb k i) (λ q. let e = eqb-true k i q in rw e (getD-set-same l i v 0 h ∙ same e))
     (λ q. let n = eqb-false k i q in getD-set-other l i k v 0 n ∙ other n)
 
--- ---- an array that is filled from its front: f below i, 0 from there on
+-- ---- an array that a loop takes from one table to another, entry after entry: f below i, g from there on
 
-pub record Filled (f : ℕ → ℕ) (n i : ℕ) (l : List ℕ) : Type 0 where
+pub record Turned (f g : ℕ → ℕ) (n i : ℕ) (l : List ℕ) : Type 0 where
   pub long : length l ≡ n
   pub done : (k : ℕ) → k < i → getD l k 0 ≡ f k
-  pub rest : (k : ℕ) → i ≤ k → k < n → getD l k 0 ≡ 0
+  pub rest : (k : ℕ) → i ≤ k → k < n → getD l k 0 ≡ g k
+
+-- one entry more
+pub turned-more : {f g : ℕ → ℕ} {n i : ℕ} {l : List ℕ} (v : ℕ) → Turned f g n i l → i < n → v ≡ f i → Turned f g n (i + 1) (set l i v)
+turned-more {f} {g} {n} {i} {l} v t h e =
+    record {
+      long = simp length-set (t .long);
+      done = λ k p. getD-set l i v k (f k) (omega (arith, t .long)) (λ q. rw q e) (λ q. t .done k (omega arith));
+      rest = λ k p q. getD-set-other l i k v 0 (omega arith) ∙ t .rest k (omega arith) q;
+    }
+
+-- turned to the end, it is the table of f
+pub turned-all : {f g : ℕ → ℕ} {n i : ℕ} {l : List ℕ} → Turned f g n i l → n ≤ i → l ≡ tab n f
+turned-all {f} {g} {n} {i} {l} t h = tab-is n f l (t .long) (λ k m. t .done k (omega arith))
+
+-- ---- an array that is filled from its front: f below i, 0 from there on
+
+abbrev pub Filled : (ℕ → ℕ) → (n i : ℕ) → List ℕ → Type 0
+Filled f n i l = Turned f (λ k. 0) n i l
 
 -- an array of zeros is filled up to 0
 pub filled-none : (f : ℕ → ℕ) (n : ℕ) → Filled f n 0 (replicate n 0)
 filled-none f n = record { long = length-replicate {A = ℕ} n 0; done = λ k h. absurd (omega arith); rest = λ k h l. getD-replicate n k 0 0 l }
 
 pub filled-more : (f : ℕ → ℕ) (n i v : ℕ) (l : List ℕ) → Filled f n i l → i < n → v ≡ f i → Filled f n (i + 1) (set l i v)
-filled-more f n i v l F h e =
-    record {
-      long = simp length-set (F .long);
-      done = λ k p. getD-set l i v k (f k) (omega (arith, F .long)) (λ q. rw q e) (λ q. F .done k (omega arith));
-      rest = λ k p q. getD-set-other l i k v 0 (omega arith) ∙ F .rest k (omega arith) q;
-    }
+filled-more f n i v l F h e = turned-more v F h e
 
 -- filled to the end, it is the table
 pub filled-all : (f : ℕ → ℕ) (n : ℕ) (l : List ℕ) → Filled f n n l → l ≡ tab n f
-filled-all f n l F = tab-is n f l (F .long) (F .done)
+filled-all f n l F = turned-all F (omega arith)
 
 -- filled up to m, it is the table that goes on with 0
 pub filled-part : (f g : ℕ → ℕ) (n m : ℕ) (l : List ℕ) → Filled f n m l → ((k : ℕ) → k < m → f k ≡ g k) → ((k : ℕ) → m ≤ k → g k ≡ 0) → l ≡ tab n g

@@ -77,6 +77,27 @@ clear-none test n c = le-ltb (first test n) n (omega (arith, first-none test n c
 pub any-some : (test : ℕ → Bool) (n k : ℕ) → k < n → test k ≡ true → any test n ≡ true
 any-some test n k h p = by-cases (any test n) (λ y. y) (λ y. not-both p (none-clear test n y k h))
 
+-- two searches end at one index where the tests agree on every index before which the first of them found none
+pub first-agree : (f g : ℕ → Bool) (n : ℕ) → ((k : ℕ) → k < n → Clear f k → f k ≡ g k) → first f n ≡ first g n
+unfolding first
+first-agree f g zero e = refl
+first-agree f g (suc n) e =
+    let here = e 0 (omega arith) (λ k h. absurd (not-suc-le-zero h)) in
+    by-cases (f 0)
+    (λ p. first-yes f n p ∙ sym (first-yes g n (sym here ∙ p)))
+    (λ p. first-no f n p ∙ ap suc (first-agree (λ k. f (suc k)) (λ k. g (suc k)) n (later p)) ∙ sym (first-no g n (sym here ∙ p)))
+  where
+    clear : f 0 ≡ false → (k : ℕ) → Clear (λ j. f (suc j)) k → Clear f (suc k)
+    clear p k c zero h = p
+    clear p k c (suc j) h = c j (le-of-suc-le-suc h)
+
+    later : f 0 ≡ false → (k : ℕ) → k < n → Clear (λ j. f (suc j)) k → f (suc k) ≡ g (suc k)
+    later p k h c = e (suc k) (omega arith) (clear p k c)
+
+-- so there is one for both or for none
+pub any-agree : (f g : ℕ → Bool) (n : ℕ) → ((k : ℕ) → k < n → f k ≡ g k) → any f n ≡ any g n
+any-agree f g n e = ap (λ (k : ℕ). ltb k n) (first-agree f g n (λ k h c. e k h))
+
 -- ---- a loop that searches
 
 pub record Seeking (test : ℕ → Bool) (n i : ℕ) : Type 0 where

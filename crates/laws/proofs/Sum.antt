@@ -11,6 +11,7 @@ use lib.Dec.{eqb}
 use borrow.Author.Tests.{eq-eqb, ne-eqb}
 use Rattle.laws.specs.Choice.{one-if}
 use Rattle.laws.specs.Sum.{sumTo}
+use Rattle.laws.specs.Lists.{tab, sumOf}
 use Rattle.laws.proofs.Cases.{by-cases, lt-or-le, refuted}
 use Rattle.laws.proofs.Decides.{spans, spans-decides, spans-not}
 
@@ -130,3 +131,10 @@ count-cell m t i j h k =
     (λ r l d. sum-zero t (λ u. one-if (eqb i r && eqb j u)) (λ u n. rw (ne-eqb i r (λ e. d (sym e)))))
     ∙ sum-only t j (λ u. one-if (eqb i i && eqb j u)) k (λ u n d. rw (eq-eqb i i refl, ne-eqb j u (λ e. d (sym e))))
     ∙ (rw (eq-eqb i i refl, eq-eqb j j refl))
+
+-- ---- the sum of a table
+
+pub sum-tab : (n : ℕ) (f : ℕ → ℕ) → sumOf (tab n f) ≡ sumTo n f
+unfolding tab sumOf
+sum-tab zero f = sym (sum-none f)
+sum-tab (suc n) f = omega (arith, sum-tab n (λ k. f (suc k)), sum-first n f)

@@ -1,6 +1,7 @@
--- The greatest common divisor, by Euclid's steps. `proofs/Divisor.antt` shows that it divides both numbers and
--- that whatever divides both divides it.
-use Prim.Native.Nat.{ℕ, zero, suc, _%_}
+-- The greatest common divisor, by Euclid's steps: `proofs/Divisor.antt` shows that it divides both numbers and that whatever divides both
+-- divides it. And the least common multiple: `proofs/Multiple.antt` shows that both numbers divide it and that it divides whatever both
+-- divide.
+use Prim.Native.Nat.{ℕ, zero, suc, _*_, _/_, _%_}
 use mathlib.Core.List.{List, [], _∷_}
 
 -- Euclid: (a, b) becomes (b, a mod b) until b is 0. The first argument is how many steps there may be
@@ -17,3 +18,12 @@ gcd a b = euclid (suc b) a b
 unfoldable pub gcdOf : List ℕ → ℕ
 gcdOf [] = zero
 gcdOf (x ∷ xs) = gcd x (gcdOf xs)
+
+-- the least number that both divide
+unfoldable pub lcm : ℕ → ℕ → ℕ
+lcm a b = a / gcd a b * b
+
+-- that all numbers of a list divide; 1 for none
+unfoldable pub lcmOf : List ℕ → ℕ
+lcmOf [] = 1
+lcmOf (x ∷ xs) = lcm x (lcmOf xs)
