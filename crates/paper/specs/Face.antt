@@ -18,6 +18,9 @@ use Rattle.paper.specs.Wanted.{Wanted}
 use Rattle.paper.specs.Builder.{build}
 use Rattle.paper.specs.Rules.{judged}
 use Rattle.paper.specs.Answers.{question, start, rowTold, advanced, counted}
+use Rattle.paper.specs.declared.ShareReading.{ShareReading}
+use Rattle.paper.specs.Sa2.{Sharing}
+use Rattle.paper.specs.Shares.{shareList, readingOfShares, sharePlan, shareQuestion}
 
 -- ---- words and entries
 
@@ -88,3 +91,20 @@ nextCall b state = needing 33 state (entries stateEntries (advanced b (stateIn s
 -- the count: the loads
 unfoldable pub countCall : List ℕ → ℕ → List ℕ → Outcome (List ℕ)
 countCall b n lent = needing 1 lent (entries (λ x. x ∷ []) (counted b n))
+
+-- the builder of shares: its answer is the reading, entries, block length and blocks; the list is left as by it
+abbrev pub shareReadingEntries : ShareReading → List ℕ
+shareReadingEntries rd = rd .entries ∷ rd .«block_length» ∷ rd .blocks ∷ []
+
+unfoldable pub sharesCall : Wanted → List ℕ → List ℕ → Outcome Sharing
+sharesCall x list lent = needing 3 lent (sharePlan x (length list))
+
+abbrev pub sharesEntries : Outcome Sharing → Outcome (List ℕ)
+sharesEntries o = entries (λ s. shareReadingEntries (readingOfShares s)) o
+
+abbrev pub sharesLeft : Outcome Sharing → Outcome (List ℕ)
+sharesLeft o = entries shareList o
+
+-- the question to a plan of shares: the duty or the mark for idle
+unfoldable pub shareAtCall : Wanted → ℕ → ℕ → List ℕ → Outcome (List ℕ)
+shareAtCall x e k lent = needing 1 lent (entries (λ h. heldEntry h ∷ []) (shareQuestion x (engine e) k))

@@ -121,3 +121,23 @@ pub struct InputRead {
     pub verdict: Verdict,
     pub input: Input,
 }
+
+// What the builder of shares tells of the list that it wrote: its entries, the block length, and the blocks up to the periods' least common
+// multiple.
+pub struct ShareReading {
+    pub entries: usize,
+    pub block_length: u32,
+    pub blocks: u32,
+}
+
+// The answer of the builder of shares.
+pub enum SharesTold {
+    Given(ShareReading),
+    Refused(Refusal),
+}
+
+// The answer of the question to a plan of shares. An engine keeps its row there, so no row is told.
+pub enum ShareAnswer {
+    Holds(Held),
+    Refused(Refusal),
+}
