@@ -8,7 +8,8 @@ use Rattle.paper.specs.Wanted.{Wanted, wanted, dutySet}
 use Rattle.paper.proofs.Outcomes.{writes-same, writes-refused}
 use Rattle.plan_laws.proofs.TakenWhen.{Taken}
 use Rattle.builder.specs.BuildAt.{buildAt}
-use Rattle.builder.proofs.AfterTaken.{not-built, none-applies, built-at, sliceable}
+use Rattle.duty_lists.proofs.AfterTests.{none-applies, sliceable}
+use Rattle.builder.proofs.AfterTaken.{not-built, built-at}
 use Rattle.builder.proofs.build.Statement.{statement}
 use Rattle.builder.proofs.build.Tie as tie
 
