@@ -31,12 +31,22 @@ use Rattle.paper.specs.declared.RowTold.{RowTold}
 use Rattle.paper.specs.declared.RowTold.the-variants.{At, Refused as NoRow}
 use Rattle.paper.specs.declared.Counted.{Counted}
 use Rattle.paper.specs.declared.Counted.the-variants.{Loads, Refused as NoCount}
+use Rattle.paper.specs.declared.Held.{Held}
+use Rattle.paper.specs.declared.ShareReading.{ShareReading}
+use Rattle.paper.specs.declared.SharesTold.{SharesTold}
+use Rattle.paper.specs.declared.SharesTold.the-variants.{Given, Refused as NotGiven}
+use Rattle.paper.specs.declared.ShareAnswer.{ShareAnswer}
+use Rattle.paper.specs.declared.ShareAnswer.the-variants.{Holds, Refused as NoAnswer}
 use Rattle.paper.specs.Outcome.{Outcome, refused, answer, refusal, refusalOf, verdictAs, writtenAs, leaves, Writes, judgedAs}
 use Rattle.paper.specs.Wanted.{Wanted}
 use Rattle.paper.specs.Answers.{answerAs, Hands, rowAs, countAs}
+use Rattle.paper.specs.Sa2.{Sharing}
+use Rattle.paper.specs.Shares.{sharesAs, GivesShares, shareAnswerAs}
+use Rattle.paper.specs.Face.{sharesCall, sharesEntries, sharesLeft, shareAtCall}
 use Rattle.paper.specs.Face.{Tells, wordOf, entries, needing, buildCall, buildEntries, judgeCall, questionCall, startCall, rowCall, nextCall, countCall}
 use Rattle.paper.proofs.Outcomes.{answered, refused-one}
 use Rattle.plan_laws.proofs.Listed.{Listed, judged-listed, build-listed, question-listed, start-listed, row-listed, next-listed, counted-listed}
+use Rattle.share_laws.proofs.SharesListed.{shares-listed, share-question-listed}
 
 -- ---- the way back, from an outcome to the answer that reads as it
 
@@ -90,6 +100,16 @@ unfolding answerFor
 count-back (Loads n) = refl
 count-back (NoCount x) = refl
 
+shares-back : (x : SharesTold) → answerFor NotGiven Given (sharesAs x) ≡ x
+unfolding answerFor
+shares-back (Given r) = refl
+shares-back (NotGiven x) = refl
+
+share-answer-back : (x : ShareAnswer) → answerFor NoAnswer Holds (shareAnswerAs x) ≡ x
+unfolding answerFor
+share-answer-back (Holds h) = refl
+share-answer-back (NoAnswer x) = refl
+
 verdict-back : (s : State) (v : Verdict) → answerFor NotDone (λ a. Done) (verdictAs v s) ≡ v
 unfolding answerFor
 verdict-back s Done = refl
@@ -124,7 +144,14 @@ row-told-one p q = one-to-one rowAs (answerFor NoRow At) row-back (p ∙ sym q)
 pub counted-one : {x y : Counted} {o : Outcome ℕ} → countAs x ≡ o → countAs y ≡ o → x ≡ y
 counted-one p q = one-to-one countAs (answerFor NoCount Loads) count-back (p ∙ sym q)
 
--- every call of the face: one word, and one state of what was lent; of the builder's the table too
+-- the builder of shares, and the question to its plan
+pub shares-one : {o : Outcome Sharing} {x y : SharesTold} {before a b : List ℕ} → GivesShares o x before a → GivesShares o y before b → (x ≡ y) × (a ≡ b)
+shares-one p q = (one-to-one sharesAs (answerFor NotGiven Given) shares-back (p .said ∙ sym (q .said)), p .left ∙ sym (q .left))
+
+pub share-answer-one : {x y : ShareAnswer} {o : Outcome Held} → shareAnswerAs x ≡ o → shareAnswerAs y ≡ o → x ≡ y
+share-answer-one p q = one-to-one shareAnswerAs (answerFor NoAnswer Holds) share-answer-back (p ∙ sym q)
+
+-- every call of the face: one word, and one state of what was lent; of the builder's the table too, of the builder of shares' the list
 pub told-one :
     {o : Outcome (List ℕ)} {before : List ℕ} {word word′ : ℕ} {after after′ : List ℕ} → Tells o word before after
     → Tells o word′ before after′ → (word ≡ word′) × (after ≡ after′)
@@ -135,6 +162,13 @@ pub built-one :
     → Tells (buildEntries o) word lent left × (bytes ≡ leaves o table) → Tells (buildEntries o) word′ lent left′ × (bytes′ ≡ leaves o table)
     → (word ≡ word′) × (left ≡ left′) × (bytes ≡ bytes′)
 built-one o table t t′ = let z = told-one (t .0) (t′ .0) in (z .0, z .1, t .1 ∙ sym (t′ .1))
+
+pub shared-one :
+    (o : Outcome Sharing) (list : List ℕ) {lent : List ℕ} {word word′ : ℕ} {left left′ entries entries′ : List ℕ}
+    → Tells (sharesEntries o) word lent left × (entries ≡ leaves (sharesLeft o) list)
+    → Tells (sharesEntries o) word′ lent left′ × (entries′ ≡ leaves (sharesLeft o) list)
+    → (word ≡ word′) × (left ≡ left′) × (entries ≡ entries′)
+shared-one o list t t′ = let z = told-one (t .0) (t′ .0) in (z .0, z .1, t .1 ∙ sym (t′ .1))
 
 -- ---- what a word says
 
@@ -207,3 +241,18 @@ pub count-numbered : (b : List ℕ) (k : ℕ) (lent : List ℕ) → Numbered (co
 unfolding countCall
 count-numbered b k lent =
     numbered-needing 1 lent _ (numbered-entries _ _ (numbered-listed _ (λ n. ⊎-elim (λ l. omega arith) (λ l. omega arith)) (counted-listed b k)))
+
+pub shares-numbered : (x : Wanted) (list lent : List ℕ) → Numbered (sharesCall x list lent)
+unfolding sharesCall
+shares-numbered x list lent =
+    numbered-needing 3 lent _
+    (numbered-listed _ (λ n. ⊎-elim (λ l. omega arith) (⊎-elim (λ l. omega arith) (λ l. omega arith))) (shares-listed x (length list)))
+
+pub share-at-numbered : (x : Wanted) (e k : ℕ) (lent : List ℕ) → Numbered (shareAtCall x e k lent)
+unfolding shareAtCall
+share-at-numbered x e k lent =
+    numbered-needing 1 lent _
+    (numbered-entries _ _
+    (numbered-listed _
+    (λ n. ⊎-elim (λ l. omega arith) (⊎-elim (λ l. omega arith) (⊎-elim (λ l. omega arith) (λ l. omega arith))))
+    (share-question-listed x _ k)))

@@ -1,0 +1,1 @@
+// No code: what follows from the definitions of SA2 and its plans.
