@@ -1,4 +1,4 @@
--- One, two or four entries stored one after the other stand over the front of the list.
+-- One to four entries stored one after the other stand over the front of the list.
 -- Assumes nothing.
 use Prim.Native.Nat.{ℕ, _≤_}
 use mathlib.Core.Path.{_≡_}
@@ -15,6 +15,13 @@ pub stored-two : (x y : ℕ) (l : List ℕ) → 2 ≤ length l → set (set l 0 
 stored-two x y l h =
     let w : List ℕ = x ∷ y ∷ [] in
     done w l (set (set l 0 x) 1 y) 2 (stored w l [] (set l 0 x) y 1 (stored w l (y ∷ []) l x 0 (unwritten w l) (omega arith)) (omega arith))
+
+pub stored-three : (x y z : ℕ) (l : List ℕ) → 3 ≤ length l → set (set (set l 0 x) 1 y) 2 z ≡ over (x ∷ y ∷ z ∷ []) l
+stored-three x y z l h =
+    let w : List ℕ = x ∷ y ∷ z ∷ [] in
+    let one = stored w l (y ∷ z ∷ []) l x 0 (unwritten w l) (omega arith) in
+    let two = stored w l (z ∷ []) (set l 0 x) y 1 one (omega arith) in
+    done w l (set (set (set l 0 x) 1 y) 2 z) 3 (stored w l [] (set (set l 0 x) 1 y) z 2 two (omega arith))
 
 pub stored-four : (x y z v : ℕ) (l : List ℕ) → 4 ≤ length l → set (set (set (set l 0 x) 1 y) 2 z) 3 v ≡ over (x ∷ y ∷ z ∷ v ∷ []) l
 stored-four x y z v l h =

@@ -6,7 +6,7 @@ ghost use Prim.Native.Nat.{_≤_};
 ghost use lib.ListN.{length};
 ghost use Rattle.laws.specs.Lists.{over};
 ghost use Rattle.paper.specs.Outcome.{verdictAs};
-ghost use Rattle.paper.specs.Face.{Tells, entries, readingEntries, replyEntries, stateEntries};
+ghost use Rattle.paper.specs.Face.{Tells, entries, readingEntries, replyEntries, stateEntries, shareReadingEntries};
 ghost use Rattle.face_entries.specs.InWord.{InWord};
 ghost use Rattle.face_entries.specs.Cut.{cutState};
 use face_words::held_entry;
@@ -15,6 +15,7 @@ use face_words::word_of;
 use paper::Dispatched;
 use paper::Reading;
 use paper::Reply;
+use paper::ShareReading;
 use paper::State;
 use paper::Verdict;
 
@@ -37,6 +38,16 @@ pub fn put_reply(answer: &mut [u64], reply: Reply)
     let held = reply.held;
     answer[0] = reply.row.0 as u64;
     answer[1] = held_entry(held);
+}
+
+// What is told of a plan of shares put into a lent answer: entries, block length, blocks.
+pub fn put_share_reading(answer: &mut [u64], rd: ShareReading)
+    requires { ⌜ 3 ≤ length (now answer) ⌝ }
+    ensures { λ r. ⌜ now (answer .exit) ≡ over (shareReadingEntries rd) (now (answer .entry)) ⌝ }
+{
+    answer[0] = rd.entries as u64;
+    answer[1] = rd.block_length as u64;
+    answer[2] = rd.blocks as u64;
 }
 
 // The state in a lent list; an entry too large for a row becomes a number that no row has.

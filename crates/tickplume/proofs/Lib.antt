@@ -1,5 +1,6 @@
 pub mod Telling
 pub mod Building
+pub mod Sharing
 pub mod Narrowed
 pub mod Cut
 pub mod Handing

@@ -5,11 +5,14 @@ ghost use mathlib.Core.Path.{_≡_};
 ghost use Rattle.paper.specs.Outcome.{leaves};
 ghost use Rattle.paper.specs.Wanted.{wanted};
 ghost use Rattle.paper.specs.Face.{Tells, buildCall, buildEntries, judgeCall, questionCall, startCall, rowCall, nextCall, countCall};
+ghost use Rattle.paper.specs.Face.{sharesCall, sharesEntries, sharesLeft, shareAtCall};
 use asked::Dispatcher;
 use face_entries::hand_over;
 use face_entries::put_reading;
 use face_entries::put_reply;
+use face_entries::put_share_reading;
 use face_entries::state_in;
+use face_words::held_entry;
 use face_words::too_short;
 use face_words::word_of;
 use paper::Answer;
@@ -17,6 +20,8 @@ use paper::Counted;
 use paper::Engine;
 use paper::Judged;
 use paper::RowTold;
+use paper::ShareAnswer;
+use paper::SharesTold;
 use paper::Written;
 
 // SA1's plan of the duties, into the lent table.
@@ -138,6 +143,54 @@ pub extern "C" fn tickplume_count(table: &[u8], blocks: u64, answer: &mut [u64])
         Counted::Refused(why) => word_of(why),
         Counted::Loads(loads) => {
             answer[0] = loads;
+            0
+        }
+    }
+}
+
+// SA2's plan of the duties: the allotments, block by block, into the lent list.
+#[no_mangle]
+pub extern "C" fn tickplume_shares(
+    engines: u32,
+    services: &[u32],
+    periods: &[u32],
+    allotments: &mut [u32],
+    answer: &mut [u64],
+) -> u64
+    ensures { λ r. ⌜ Tells (sharesEntries (sharesCall (wanted engines (now (services .entry)) (now (periods .entry))) (now (allotments .entry)) (now (answer .entry)))) r (now (answer .entry)) (now (answer .exit)) ⌝ }
+    ensures { λ r. ⌜ now (allotments .exit) ≡ leaves (sharesLeft (sharesCall (wanted engines (now (services .entry)) (now (periods .entry))) (now (allotments .entry)) (now (answer .entry)))) (now (allotments .entry)) ⌝ }
+{
+    if answer.len() < 3 {
+        return too_short(3);
+    }
+    match share_plan::build_shares(engines, services, periods, allotments) {
+        SharesTold::Refused(why) => word_of(why),
+        SharesTold::Given(reading) => {
+            put_share_reading(answer, reading);
+            0
+        }
+    }
+}
+
+// What an engine does at a tick in that plan: the duty or the mark for idle.
+#[no_mangle]
+pub extern "C" fn tickplume_share_at(
+    engines: u32,
+    services: &[u32],
+    periods: &[u32],
+    engine: u32,
+    tick: u64,
+    answer: &mut [u64],
+) -> u64
+    ensures { λ r. ⌜ Tells (shareAtCall (wanted engines (now (services .entry)) (now (periods .entry))) engine tick (now (answer .entry))) r (now (answer .entry)) (now (answer .exit)) ⌝ }
+{
+    if answer.len() < 1 {
+        return too_short(1);
+    }
+    match share_plan::share_question(engines, services, periods, Engine(engine), tick) {
+        ShareAnswer::Refused(why) => word_of(why),
+        ShareAnswer::Holds(held) => {
+            answer[0] = held_entry(held);
             0
         }
     }

@@ -1,0 +1,3 @@
+-- the first needs, duty after duty; a block on its way
+pub mod Beginning
+pub mod Going

@@ -1,0 +1,31 @@
+-- What stands in the four lists on the way: the duties' shares, and their needs before a block.
+use Prim.Native.Nat.{ℕ, _/_, _%_}
+use mathlib.Core.Path.{_≡_}
+use mathlib.Core.List.{List}
+use lib.ListN.{length}
+use Rattle.laws.specs.Sum.{sumTo}
+use Rattle.laws.specs.Lists.{tab}
+use Rattle.paper.specs.Wanted.{dutiesOf}
+use Rattle.paper.specs.Sa2.{Sharing, sharing, dutyCount, dutyOf, shareOf, wholeOf, partOf, needsAt}
+
+-- the blocks of the duties of two lists
+abbrev pub sharingBy : (t engines : ℕ) (ss ps : List ℕ) → Sharing
+sharingBy t m ss ps = sharing t m (dutiesOf ss ps)
+
+-- four lists of one entry for each duty
+pub record Lent (ss rate rest whole part : List ℕ) : Type 0 where
+  pub rates : length rate ≡ length ss
+  pub rests : length rest ≡ length ss
+  pub wholes : length whole ≡ length ss
+  pub parts : length part ≡ length ss
+
+-- the shares: "T * C_i / D_i = N_i + F_i", F in D-ths
+pub record Rated (s : Sharing) (rate rest : List ℕ) : Type 0 where
+  pub rates : rate ≡ tab (dutyCount s) (λ i. shareOf s i / dutyOf s i .period)
+  pub rests : rest ≡ tab (dutyCount s) (λ i. shareOf s i % dutyOf s i .period)
+
+-- the needs before block b, and the sum of their whole units, all raised by 1
+pub record Paced (s : Sharing) (b : ℕ) (whole part : List ℕ) (total : ℕ) : Type 0 where
+  pub wholes : whole ≡ tab (dutyCount s) (wholeOf s (needsAt s b))
+  pub parts : part ≡ tab (dutyCount s) (partOf s (needsAt s b))
+  pub sum : total ≡ sumTo (dutyCount s) (wholeOf s (needsAt s b))

@@ -1,0 +1,120 @@
+// Steps 1, 2 and 4 of SA2 for all duties, block after block. Each duty's share and need stand in four lent lists of one entry for each duty:
+// whole units (`rate`, `whole`) and the part of a unit (`rest`, `part`), the need's whole raised by 1.
+ghost use mathlib.Core.Path.{_≡_};
+ghost use Prim.Native.Nat.{_+_, _*_, _/_, _%_, _≤_, _<_};
+ghost use lib.ListN.{length};
+ghost use Rattle.laws.specs.Lists.{over};
+ghost use Rattle.paper.specs.Bytes.{small, mostTicks};
+ghost use Rattle.paper.specs.Sa2.{needsAt, allotments};
+ghost use Rattle.duty_lists.specs.Sliceable.{Sliceable};
+ghost use Rattle.share_laws.specs.Short.{short};
+ghost use Rattle.share_block.specs.Paced.{sharingBy, Lent, Rated, Paced};
+use duty_lists::duty_at;
+use paper::Duty;
+use share_turn::room_in_block;
+use share_turn::take_turn;
+
+// A duty's share of a block: whole units, and the part of a unit in D-ths.
+struct Share {
+    rate: u32,
+    rest: u32,
+}
+
+// "T * C / D = N + F". The whole units are at most T, since C is at most D.
+fn share_of(t: u32, x: Duty) -> Share
+    requires { ⌜ (t ≤ mostTicks) × (x .period ≤ mostTicks) × (x .service ≤ x .period) × (0 < x .period) ⌝ }
+    ensures { λ r. ⌜ (r .rate ≡ t * x .service / x .period) × (r .rest ≡ t * x .service % x .period) × (r .rate ≤ t) ⌝ }
+{
+    let share = t as u64 * x.service as u64;
+    let rate = (share / x.period as u64) as u32;
+    let rest = (share % x.period as u64) as u32;
+    Share { rate, rest }
+}
+
+// The duties' shares, and their needs before the first block, for so many engines (which only the contract names). The answer is the sum of
+// the needs' whole units, each raised by 1.
+pub fn begin(
+    t: u32,
+    engines: u32,
+    services: &[u32],
+    periods: &[u32],
+    rate: &mut [u32],
+    rest: &mut [u32],
+    whole: &mut [u32],
+    part: &mut [u32],
+) -> u32
+    requires { ⌜ Sliceable t (now services) (now periods) × Lent (now services) (now rate) (now rest) (now whole) (now part) ⌝ }
+    ensures { λ r. ⌜ Rated (sharingBy t engines (now (services .entry)) (now (periods .entry))) (now (rate .exit)) (now (rest .exit)) ⌝ }
+    ensures { λ r. ⌜ Paced (sharingBy t engines (now (services .entry)) (now (periods .entry))) 0 (now (whole .exit)) (now (part .exit)) r ⌝ }
+{
+    let mut total = 0;
+    let mut i = 0;
+    while i < services.len() {
+        let share = share_of(t, duty_at(services, periods, i));
+        rate[i] = share.rate;
+        rest[i] = share.rest;
+        whole[i] = share.rate + 1;
+        part[i] = share.rest;
+        total += share.rate + 1;
+        i += 1;
+    }
+    total
+}
+
+// How a block came out: the sum of the needs' whole units before the next one, each raised by 1, and whether it came short.
+pub struct Shared {
+    pub total: u32,
+    pub short: bool,
+}
+
+// One block, the one of number `block` (which only the contract names): what each duty gets goes to `units`, and the needs move on.
+pub fn share_block(
+    t: u32,
+    engines: u32,
+    services: &[u32],
+    periods: &[u32],
+    rate: &[u32],
+    rest: &[u32],
+    block: u32,
+    whole: &mut [u32],
+    part: &mut [u32],
+    total: u32,
+    units: &mut [u32],
+) -> Shared
+    requires { ⌜ Sliceable t (now services) (now periods) × (engines ≤ small .mostEngines) × (length (now services) ≤ length (now units)) ⌝ }
+    requires { ⌜ Rated (sharingBy t engines (now services) (now periods)) (now rate) (now rest) ⌝ }
+    requires { ⌜ Paced (sharingBy t engines (now services) (now periods)) block (now whole) (now part) total ⌝ }
+    ensures { λ r. ⌜ Paced (sharingBy t engines (now (services .entry)) (now (periods .entry))) (block + 1) (now (whole .exit)) (now (part .exit)) (r .total) ⌝ }
+    ensures { λ r. ⌜ r .short ≡ short (sharingBy t engines (now (services .entry)) (now (periods .entry))) (needsAt (sharingBy t engines (now (services .entry)) (now (periods .entry))) block) ⌝ }
+    ensures { λ r. ⌜ now (units .exit) ≡ over (allotments (sharingBy t engines (now (services .entry)) (now (periods .entry))) block) (now (units .entry)) ⌝ }
+{
+    let room = room_in_block(t, engines, services.len() as u32, total);
+    let free = room.free;
+    let mut wanting = 0;
+    let mut next = 0;
+    let mut lacking = false;
+    let mut i = 0;
+    while i < services.len() {
+        let turn = take_turn(
+            t,
+            periods[i],
+            rate[i],
+            rest[i],
+            whole[i],
+            part[i],
+            wanting,
+            free,
+        );
+        units[i] = turn.units;
+        whole[i] = turn.whole;
+        part[i] = turn.part;
+        wanting += turn.wanted;
+        next += turn.whole;
+        lacking = lacking | turn.lacking;
+        i += 1;
+    }
+    Shared {
+        total: next,
+        short: lacking | room.overfull,
+    }
+}

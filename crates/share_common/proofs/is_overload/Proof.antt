@@ -1,0 +1,87 @@
+-- `is_overload`: what the duties need is added up; none needs more than the ticks, so the sum of few of them fits 64 bits.
+-- Assumes nothing.
+use Prim.Native.Nat.{ℕ, _+_, _*_, _/_, _-_, _≤_, _<_}
+use mathlib.Core.Path.{_≡_, refl, sym, ap, _∙_}
+use native.Mathlib.Nat.{mul-le-mul}
+use native.Mathlib.Omega.{arith}
+use borrow.Author.Needs.{needs}
+use lib.Dec.{ltb}
+use lib.ListN.{length}
+use Rattle.laws.specs.Sum.{sumTo}
+use Rattle.laws.proofs.Sum.{sum-none, sum-more}
+use Rattle.paper.specs.declared.Duty.{Duty}
+use Rattle.paper.specs.Wanted.{dutiesOf}
+use Rattle.plan_laws.proofs.Planned.{length-duties}
+use Rattle.share_common.specs.Common.{loadAt}
+use Rattle.share_common.proofs.is_overload.Statement.{statement}
+use Rattle.share_common.proofs.is_overload.Tie as tie
+
+abbrev Inv-loop : tie.InvT-loop
+Inv-loop t engines services periods common load₀ i₀ load i =
+    (i ≤ length services)
+    × (load ≡ sumTo i (loadAt (dutiesOf services periods) common))
+    × (load ≤ 4_294_967_295 * i)
+
+abbrev μ-loop : tie.MeasureT-loop
+μ-loop t engines services periods common load₀ i₀ load i = length services - i
+
+loop-holds : tie.Need-loop-holds Inv-loop μ-loop
+loop-holds c = (search needs, sym (sum-none _), omega arith)
+
+duty-at-requires : tie.Need-duty-at-requires Inv-loop μ-loop
+duty-at-requires c κs = search needs
+
+load-of-requires : tie.Need-load-of-requires Inv-loop μ-loop
+load-of-requires c κs =
+    let z = c .before .before .before .before .before .pre .0 .ranged (c .before .before .loop .i) (search needs) in
+    rw (c .duty-at .ensures) (z .period-least, z .service-most)
+
+add-load : tie.Need-add-load Inv-loop μ-loop
+add-load c = search needs
+
+add-i : tie.Need-add-i Inv-loop μ-loop
+add-i c = search needs
+
+loop-less : tie.Need-loop-less Inv-loop μ-loop
+loop-less c = search needs
+
+loop-again : tie.Need-loop-again Inv-loop μ-loop
+loop-again c =
+    let i = c .before .before .before .loop .i in
+    let a = c .before .before .before .before .before .before .args in
+    let ds = dutiesOf (a .services .now) (a .periods .now) in
+    let here : c .load-of .result ≡ loadAt ds (a .common) i =
+    c .load-of .ensures .0 ∙ ap (λ (x : Duty). x .service * (a .common / x .period)) (c .before .duty-at .ensures) in (
+      search needs,
+      omega (arith, sum-more i (loadAt ds (a .common)), here, c .before .before .before .loop .inv .1),
+      omega (arith, c .load-of .ensures .1, c .before .before .before .loop .inv .2),
+    )
+
+mul-result : tie.Need-mul-result Inv-loop μ-loop
+mul-result c =
+    let a = c .before .before .before .before .args in
+    let small : a .common ≤ 4_294_967_295 = omega arith in
+    omega (arith, mul-le-mul {n₂ = 32} {m₂ = 4_294_967_295} (c .before .before .before .before .pre .1) small)
+
+returns : tie.Need-returns Inv-loop μ-loop
+returns c =
+    let s = c .before .before .before .before in
+    let ds = dutiesOf (s .args .services .now) (s .args .periods .now) in
+    let all : c .before .loop .i ≡ length ds = omega (arith, length-duties (s .args .services .now) (s .args .periods .now), c .before .loop .inv .0, c .loop-test .left) in
+    ap (ltb (s .args .engines * s .args .common)) (c .before .loop .inv .1 ∙ ap (λ (n : ℕ). sumTo n (loadAt ds (s .args .common))) all)
+
+pub is-overload-spec : {M : Type 1} → statement M
+is-overload-spec =
+    tie.close
+    (tie.spec
+    Inv-loop
+    μ-loop
+    loop-holds
+    duty-at-requires
+    load-of-requires
+    add-load
+    add-i
+    loop-less
+    loop-again
+    mul-result
+    returns)

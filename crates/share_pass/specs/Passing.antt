@@ -1,0 +1,23 @@
+-- How far a pass over the blocks has come.
+use Prim.Native.Nat.{ℕ, _+_, _≤_, _<_}
+use mathlib.Core.Path.{_≡_}
+use mathlib.Core.Bool.{Bool, true, false}
+use mathlib.Core.List.{List}
+use Rattle.laws.specs.Lists.{over}
+use Rattle.paper.specs.Sa2.{Sharing, needsAt, allotments}
+use Rattle.share_laws.specs.Short.{short}
+use Rattle.share_block.specs.Paced.{Paced}
+
+-- block b comes short
+abbrev pub shortAt : Sharing → ℕ → Bool
+shortAt s b = short s (needsAt s b)
+
+-- from one block on, none before `block` came short; it does, or it is the end. At the end the lists hold the needs before it, and the list of
+-- units, which was `before`, what the last block gave
+pub record Passed (s : Sharing) (from to : ℕ) (before : List ℕ) (block total : ℕ) (whole part units : List ℕ) : Type 0 where
+  pub least : from ≤ block
+  pub most : block ≤ to
+  pub clear : (b : ℕ) → from ≤ b → b < block → shortAt s b ≡ false
+  pub stopped : block < to → shortAt s block ≡ true
+  pub paced : block ≡ to → Paced s to whole part total
+  pub last : block ≡ to → (b : ℕ) → b + 1 ≡ to → from ≤ b → units ≡ over (allotments s b) before

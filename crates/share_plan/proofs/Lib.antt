@@ -1,0 +1,2 @@
+pub mod FromBlocks
+pub mod FromTests

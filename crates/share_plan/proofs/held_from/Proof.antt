@@ -1,0 +1,109 @@
+-- `held_from`: every block is looked at, and the tick's kept; the engine's row and the tick's unit are a place on its line.
+-- Assumes nothing.
+use Prim.Native.Nat.{ℕ, _+_, _*_, _/_, _%_, _≤_, _<_}
+use mathlib.Core.Path.{_≡_, sym, ap, _∙_}
+use mathlib.Core.List.{List}
+use native.Mathlib.Nat.{mod-lt, mul-le-mul}
+use native.Mathlib.Omega.{arith}
+use borrow.Author.Needs.{needs}
+use lib.ListN.{length, take}
+use lib.Seq.{length-take-le}
+use Rattle.paper.specs.Bytes.{small, mostTicks}
+use Rattle.paper.specs.Outcome.{answer}
+use Rattle.plan_laws.proofs.Line.{onLine}
+use Rattle.share_plan.proofs.FromBlocks.{bad-steady, good-steady, held-none, kept-units, held-on-line}
+use Rattle.share_plan.proofs.held_from.Statement.{statement}
+use Rattle.share_plan.proofs.held_from.Tie as tie
+
+div-block : tie.Need-div-block
+div-block c = search needs
+
+rem-block : tie.Need-rem-block
+rem-block c = search needs
+
+-- the tick's block is one of them, and its unit one of the block's
+inside : (s : tie.Start) → s .args .tick / s .args .t % s .args .blocks < s .args .blocks
+inside s = mod-lt (s .args .tick / s .args .t) (s .pre .some)
+
+unit-inside : (s : tie.Start) → s .args .tick % s .args .t < s .args .t
+unit-inside s = mod-lt (s .args .tick) (s .pre .sliceable .ticks-least)
+
+cast-block : tie.Need-cast-block
+cast-block c = omega (arith, inside (c .before .before), c .before .before .pre .few)
+
+slice-aggregate-survey : tie.Need-slice-aggregate-survey
+slice-aggregate-survey c = search needs
+
+survey-requires : tie.Need-survey-requires
+survey-requires c κs =
+    let s = c .before .before .before in
+    (s .pre .sliceable, s .pre .engines-most, inside s, s .pre .sliceable .paired .few)
+
+cast-t19 : tie.Need-cast-t19
+cast-t19 c = search needs
+
+returns : tie.Need-returns
+returns c =
+    let s = c .before .before .before .before .before .before in
+    sym (rw (bad-steady (s .pre) _ (c .before .before .survey .ensures .found) (c .if1 .taken)))
+
+returns-2 : tie.Need-returns-2
+returns-2 c =
+    let s = c .before .before .before .before .before .before .before .before in
+    sym (held-none (s .pre) (s .args .engine) (s .args .tick) (good-steady (s .pre) _ (c .before .before .before .before .survey .ensures .found) (c .before .before .if1 .left)) (c .if2 .taken))
+
+-- the engine's row begins below 32 blocks' ticks
+place-most : (c : tie.Else2) → c .before .before .before .before .before .before .before .before .args .engine .0 * c .before .before .before .before .before .before .before .before .args .t ≤ small .mostEngines * mostTicks
+place-most c =
+    let s = c .before .before .before .before .before .before .before .before in
+    mul-le-mul {n₂ = small .mostEngines} {m₂ = mostTicks} (omega (arith, c .if2 .left, s .pre .engines-most)) (s .pre .sliceable .ticks-most)
+
+mul-place : tie.Need-mul-place
+mul-place c = omega (arith, place-most (c .before))
+
+rem-place : tie.Need-rem-place
+rem-place c = search needs
+
+cast-place : tie.Need-cast-place
+cast-place c = omega (arith, unit-inside (c .before .before .before .before .before .before .before .before .before), c .before .before .before .before .before .before .before .before .before .pre .sliceable .ticks-most)
+
+add-place : tie.Need-add-place
+add-place c = omega (arith, place-most (c .before), unit-inside (c .before .before .before .before .before .before .before .before .before), c .before .before .before .before .before .before .before .before .before .pre .sliceable .ticks-most)
+
+array-share-prefix-units : tie.Need-array-share-prefix-units
+array-share-prefix-units c = search needs
+
+slice-aggregate-held-at : tie.Need-slice-aggregate-held-at
+slice-aggregate-held-at c = sym (length-take-le _ _ (array-share-prefix-units (c .before)))
+
+held-at-requires : tie.Need-held-at-requires
+held-at-requires c κs = omega (arith, slice-aggregate-held-at c, c .before .before .before .before .before .before .before .before .before .before .pre .sliceable .paired .few)
+
+returns-3 : tie.Need-returns-3
+returns-3 c =
+    let s = c .before .before .before .before .before .before .before .before .before .before .before in
+    let looked = c .before .before .before .before .before .before .before .survey .ensures in
+    let all = c .before .before .before .before .before .if1 .left in
+    ap answer (c .held-at .ensures ∙ ap (λ (l : List ℕ). onLine l 0 0 (s .args .engine .0 * s .args .t + s .args .tick % s .args .t)) (kept-units (s .pre) looked all))
+    ∙ sym (held-on-line (s .pre) (s .args .engine) (s .args .tick) (good-steady (s .pre) _ (looked .found) all) (c .before .before .before .if2 .left))
+
+pub held-from-spec : {M : Type 1} → statement M
+held-from-spec =
+    tie.close
+    (tie.spec
+    div-block
+    rem-block
+    cast-block
+    slice-aggregate-survey
+    survey-requires
+    cast-t19
+    returns
+    returns-2
+    mul-place
+    rem-place
+    cast-place
+    add-place
+    array-share-prefix-units
+    slice-aggregate-held-at
+    held-at-requires
+    returns-3)

@@ -1,0 +1,32 @@
+-- Plans of shares once the blocks are known.
+use Prim.Native.Nat.{ℕ, _≤_, _<_, _∣_}
+use mathlib.Core.Path.{_≡_}
+use mathlib.Core.List.{List}
+use lib.Dec.{ltb}
+use lib.ListN.{length, getD}
+use Rattle.laws.specs.Choice.{pick}
+use Rattle.paper.specs.declared.Engine.{Engine}
+use Rattle.paper.specs.declared.Held.{Held}
+use Rattle.paper.specs.Outcome.{Outcome, refused, answer, andThen}
+use Rattle.paper.specs.Bytes.{small}
+use Rattle.paper.specs.Sa2.{Sharing}
+use Rattle.paper.specs.Shares.{blocks, shareSchedule, mostShareBlocks, roomy, steady}
+use Rattle.duty_lists.specs.Sliceable.{Sliceable}
+use Rattle.share_block.specs.Paced.{sharingBy}
+
+-- lists that were taken, a block length that divides their periods, and the blocks up to their common multiple
+pub record KnownBlocks (t m : ℕ) (ss ps : List ℕ) (n : ℕ) : Type 0 where
+  pub sliceable : Sliceable t ss ps
+  pub divides : (i : ℕ) → i < length ps → t ∣ getD ps i 0
+  pub engines-most : m ≤ small .mostEngines
+  pub blocks-are : n ≡ blocks (sharingBy t m ss ps)
+  pub some : 0 < n
+  pub few : n ≤ mostShareBlocks
+
+-- 8 and 23, else the plan
+abbrev pub listFrom : ℕ → Sharing → Outcome Sharing
+listFrom room s = andThen (roomy room s) steady
+
+-- 23 and 18, else the duty or idle
+abbrev pub heldFrom : Engine → ℕ → Sharing → Outcome Held
+heldFrom e k s = andThen (steady s) (λ p. pick (ltb (e .0) (p .engines)) (answer (shareSchedule p e k)) (refused 18 0))

@@ -1,0 +1,76 @@
+-- `tickplume_shares`: the answer of the builder of shares as a word, or its reading as three entries; the builder of shares has written the list.
+-- Assumes nothing.
+use borrow.Author.Needs.{needs}
+use Rattle.paper.specs.Wanted.{Wanted, wanted}
+use Rattle.tickplume.proofs.Sharing.{shares-fits, shares-short, shares-refused, shares-answer}
+use Rattle.tickplume.proofs.tickplume_shares.Statement.{statement}
+use Rattle.tickplume.proofs.tickplume_shares.Tie as tie
+
+-- what is wanted
+abbrev want : tie.Start → Wanted
+want c = wanted (c .args .engines) (c .args .services .now) (c .args .periods .now)
+
+too-short-requires : tie.Need-too-short-requires
+too-short-requires c κs = search needs
+
+returns : tie.Need-returns
+returns c =
+    let start = c .before .before .before .before .before .before in
+    shares-short (want start) (start .args .allotments .now) (start .args .answer .now) _ (c .before .if1 .taken) (c .too-short .ensures)
+
+build-shares-requires : tie.Need-build-shares-requires
+build-shares-requires c κs = search needs
+
+enum-known-why : tie.Need-enum-known-why
+enum-known-why c = search needs
+
+word-of-requires : tie.Need-word-of-requires
+word-of-requires c κs =
+    let start = c .before .before .before .before .before .before .before .before .before .before .before .before in
+    shares-fits (want start) (start .args .allotments .now) (c .before .before .before .before .before .build-shares .ensures) (c .before .why .given .1)
+
+enum-known-reading : tie.Need-enum-known-reading
+enum-known-reading c = search needs
+
+put-share-reading-requires : tie.Need-put-share-reading-requires
+put-share-reading-requires c κs = search needs
+
+same-length : tie.Need-same-length
+same-length c = search needs
+
+returns-2 : tie.Need-returns-2
+returns-2 c =
+    let at = c .before .before .before .before .before .before in
+    let start = at .before .before .before .before .before .before .before in
+    shares-refused (want start) (start .args .allotments .now) (start .args .answer .now) _ (at .before .before .if1 .left)
+    (at .build-shares .ensures) (c .before .before .why .given .1) (c .word-of .ensures)
+
+same-length-2 : tie.Need-same-length-2
+same-length-2 c = search needs
+
+same-length-3 : tie.Need-same-length-3
+same-length-3 c = search needs
+
+returns-3 : tie.Need-returns-3
+returns-3 c =
+    let at = c .before .before .before .before .before .before .before .before .before in
+    let start = at .before .before .before .before .before .before .before in
+    shares-answer (want start) (start .args .allotments .now) (start .args .answer .now) _ (at .before .before .if1 .left)
+    (at .build-shares .ensures) (c .before .before .before .before .before .reading .given .1) (c .before .before .put-share-reading .ensures)
+
+pub tickplume-shares-spec : {M : Type 1} → statement M
+tickplume-shares-spec =
+    tie.close
+    (tie.spec
+    too-short-requires
+    returns
+    build-shares-requires
+    enum-known-why
+    word-of-requires
+    enum-known-reading
+    put-share-reading-requires
+    same-length
+    returns-2
+    same-length-2
+    same-length-3
+    returns-3)
