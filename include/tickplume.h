@@ -27,7 +27,7 @@ extern "C" {
 /* Refusals beyond document 01's: the lent answer or state is too short (place: the entries needed). It is looked for first. */
 #define TICKPLUME_SHORT 255
 
-/* The mark for an idle engine in tickplume_question's answer. */
+/* The mark for an idle engine in tickplume_question's and tickplume_share_at's answers. */
 #define TICKPLUME_IDLE UINT64_MAX
 
 /* Entries of a dispatcher's state: the block, then the row of each of 32 engines (0 past the last engine). */
@@ -35,6 +35,11 @@ extern "C" {
 
 /* Bytes of the longest table that the builder writes or the judge accepts. */
 #define TICKPLUME_MOST_BYTES 1994
+
+/* The most blocks up to the periods' least common multiple in a plan of shares, and the most entries of its allotments: as many for each
+ * of 64 duties. */
+#define TICKPLUME_MOST_SHARE_BLOCKS 4096
+#define TICKPLUME_MOST_ALLOTMENTS 262144
 
 /* Builds SA1's plan of the duties (services[i], periods[i]) into table.
  * answer[0]: the table's length in bytes; the bytes of table past it stay.
@@ -75,6 +80,26 @@ uint64_t tickplume_next(const uint8_t *table, size_t table_len, uint64_t *state,
  * answer[0]: the loads.
  * Refusals: 10 to 17, then 19 above 1,000,000,000,000 blocks. */
 uint64_t tickplume_count(const uint8_t *table, size_t table_len, uint64_t blocks, uint64_t *answer, size_t answer_len);
+
+/* A plan of shares, for duties whose share of a block, T * service / period, is not whole. T is the periods' greatest common divisor. A
+ * duty gets other numbers of units from block to block, so there is no table: the plan is its allotments, up to the periods' least common
+ * multiple, and goes on from the first again. ENGINE i keeps row i; nothing rotates. */
+
+/* SA2's allotments of the duties (services[i], periods[i]), block by block, within a block duty by duty:
+ * allotments[block * duties + i] is how many units duty i has in the block.
+ * answer[0]: the entries written, blocks times duties; answer[1]: the block length; answer[2]: the blocks. The entries of allotments past
+ * the last stay. To learn how many are needed, lend none: the refusal is then 8, or one that stands before it.
+ * Refusals: 1 to 5 as tickplume_build's; 22 more than TICKPLUME_MOST_SHARE_BLOCKS blocks; 7 the sum of service / period above the
+ * engines; 8 allotments too short (place: entries needed); 23 SA2 has no plan for these duties: its steps would give a duty fewer than 0
+ * units, or a block more than the engines have (place: the first such block). Then neither allotments nor answer is changed. */
+uint64_t tickplume_shares(uint32_t engines, const uint32_t *services, size_t services_len, const uint32_t *periods, size_t periods_len,
+                          uint32_t *allotments, size_t allotments_len, uint64_t *answer, size_t answer_len);
+
+/* What does ENGINE do at the tick in that plan? Any tick. It takes the time of going through all blocks, whatever the tick.
+ * answer[0]: the duty, or TICKPLUME_IDLE.
+ * Refusals: 1 to 5, 22, 7 and 23 as tickplume_shares', then 18 no such engine. */
+uint64_t tickplume_share_at(uint32_t engines, const uint32_t *services, size_t services_len, const uint32_t *periods, size_t periods_len,
+                            uint32_t engine, uint64_t tick, uint64_t *answer, size_t answer_len);
 
 #ifdef __cplusplus
 }

@@ -1,6 +1,6 @@
 //! The library's calls as safe functions, one for each, over any bytes: whatever arrives is judged first.
 
-use crate::{ffi, Duty, Engine, Held, Reading, Refusal, Reply, Row};
+use crate::{ffi, Duty, Engine, Held, Reading, Refusal, Reply, Row, ShareReading};
 
 /// The entries of a dispatcher's state: the block, then the row of each of 32 engines.
 pub const STATE: usize = 33;
@@ -14,6 +14,15 @@ fn told<A>(word: u64, answer: A) -> Result<A, Refusal> {
         Ok(answer)
     } else {
         Err(Refusal::from_word(word))
+    }
+}
+
+/// An answered entry as a duty or idle.
+fn held(entry: u64) -> Held {
+    if entry == IDLE {
+        Held::Idle
+    } else {
+        Held::Duty(entry as u32)
     }
 }
 
@@ -68,8 +77,7 @@ pub fn question(table: &[u8], engine: Engine, tick: u64) -> Result<Reply, Refusa
     let word = unsafe {
         ffi::tickplume_question(table.as_ptr(), table.len(), engine.0, tick, answer.as_mut_ptr(), answer.len())
     };
-    let held = if answer[1] == IDLE { Held::Idle } else { Held::Duty(answer[1] as u32) };
-    told(word, Reply { held, row: Row(answer[0] as u32) })
+    told(word, Reply { held: held(answer[1]), row: Row(answer[0] as u32) })
 }
 
 /// The dispatcher's state for a block. Refusals 10 to 17.
@@ -113,7 +121,65 @@ pub fn count(table: &[u8], blocks: u64) -> Result<u64, Refusal> {
     told(word, answer[0])
 }
 
-/// The two lists that the builder takes.
+/// SA2's allotments of `services` and `periods`, block by block up to the periods' least common multiple, within a
+/// block duty by duty. The entries past the last stay; a refusal (1 to 5, 22, 7, 8, 23) leaves every entry as it was.
+/// Where none are lent, the place of 8 is how many are needed.
+///
+/// ```
+/// // 1 tick in every 2 and 1 in every 4, on one engine: blocks of 2 ticks, a whole unit and half a unit
+/// let mut allotments = [9; 5];
+/// let reading = tickplume::calls::shares(1, &[1, 1], &[2, 4], &mut allotments)?;
+/// assert_eq!((reading.entries, reading.block_length, reading.blocks), (4, 2, 2));
+/// assert_eq!(allotments, [1, 1, 1, 0, 9]);
+/// # Ok::<(), tickplume::Refusal>(())
+/// ```
+pub fn shares(
+    engines: u32,
+    services: &[u32],
+    periods: &[u32],
+    allotments: &mut [u32],
+) -> Result<ShareReading, Refusal> {
+    let mut answer = [0u64; 3];
+    // SAFETY: see `build`.
+    let word = unsafe {
+        ffi::tickplume_shares(
+            engines,
+            services.as_ptr(),
+            services.len(),
+            periods.as_ptr(),
+            periods.len(),
+            allotments.as_mut_ptr(),
+            allotments.len(),
+            answer.as_mut_ptr(),
+            answer.len(),
+        )
+    };
+    let [entries, block_length, blocks] = answer;
+    told(word, ShareReading { entries: entries as usize, block_length: block_length as u32, blocks: blocks as u32 })
+}
+
+/// What the engine does at the tick in the plan of shares: engine i keeps row i, so there is no row to tell. Refusals 1
+/// to 5, 22, 7, 23, then 18.
+pub fn share_at(engines: u32, services: &[u32], periods: &[u32], engine: Engine, tick: u64) -> Result<Held, Refusal> {
+    let mut answer = [0u64; 1];
+    // SAFETY: see `build`.
+    let word = unsafe {
+        ffi::tickplume_share_at(
+            engines,
+            services.as_ptr(),
+            services.len(),
+            periods.as_ptr(),
+            periods.len(),
+            engine.0,
+            tick,
+            answer.as_mut_ptr(),
+            answer.len(),
+        )
+    };
+    told(word, held(answer[0]))
+}
+
+/// The two lists that the builders take.
 pub fn lists(duties: &[Duty]) -> (Vec<u32>, Vec<u32>) {
     duties.iter().map(|x| (x.service, x.period)).unzip()
 }

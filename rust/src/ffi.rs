@@ -35,4 +35,26 @@ extern "C" {
     pub fn tickplume_next(table: *const u8, table_len: usize, state: *mut u64, state_len: usize) -> u64;
     pub fn tickplume_count(table: *const u8, table_len: usize, blocks: u64, answer: *mut u64, answer_len: usize)
         -> u64;
+    pub fn tickplume_shares(
+        engines: u32,
+        services: *const u32,
+        services_len: usize,
+        periods: *const u32,
+        periods_len: usize,
+        allotments: *mut u32,
+        allotments_len: usize,
+        answer: *mut u64,
+        answer_len: usize,
+    ) -> u64;
+    pub fn tickplume_share_at(
+        engines: u32,
+        services: *const u32,
+        services_len: usize,
+        periods: *const u32,
+        periods_len: usize,
+        engine: u32,
+        tick: u64,
+        answer: *mut u64,
+        answer_len: usize,
+    ) -> u64;
 }

@@ -4,6 +4,9 @@
 //! *engine* to engine at each block. A row is a line of the plan, an engine is the hardware: [`Row`] and [`Engine`]
 //! are two types, and only the rotation turns one into the other.
 //!
+//! A [`Table`] is for duties whose slice of a block is whole. Where it is not, a plan of [`Shares`] gives a duty other
+//! numbers of units from block to block.
+//!
 //! The functions here are safe wrappers of a library whose every function is proved to meet its contract, for every
 //! input: each call answers, or refuses with a [`Refusal`] and changes nothing.
 //!
@@ -29,9 +32,11 @@
 pub mod calls;
 mod ffi;
 mod refusal;
+mod shares;
 mod table;
 
 pub use refusal::Refusal;
+pub use shares::{ShareReading, Shares};
 pub use table::{Dispatcher, Duty, Engine, Held, Reading, Reply, Row, Table};
 
 /// The most engines a plan may have.
@@ -46,3 +51,7 @@ pub const MOST_TICKS: u32 = 1_000_000;
 pub const MOST_BLOCKS: u64 = 1_000_000_000_000;
 /// The length in bytes of the longest table.
 pub const MOST_BYTES: usize = 7 + 9 * MOST_DUTIES + 11 * MOST_RUNS + 3;
+/// The most blocks up to the periods' least common multiple in a plan of shares.
+pub const MOST_SHARE_BLOCKS: u32 = 4_096;
+/// The most entries that the allotments of a plan of shares have.
+pub const MOST_ALLOTMENTS: usize = MOST_SHARE_BLOCKS as usize * MOST_DUTIES;

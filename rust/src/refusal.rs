@@ -1,11 +1,12 @@
 use std::fmt;
 
-/// Why a call was refused: a number from document 01's table, and the place that it names (0 where it names none).
+/// Why a call was refused: a number of the documents' tables, and the place that it names (0 where it names none).
 #[derive(Clone, Copy, Debug, PartialEq, Eq, Hash)]
 pub struct Refusal {
     /// The refusal's number.
     pub number: u8,
-    /// A duty, a run, an offset in bytes, or the bytes needed, as the number says; 0 where no place is named.
+    /// A duty, a run, a block, an offset in bytes, or the bytes or entries needed, as the number says; 0 where no place
+    /// is named.
     pub place: u64,
 }
 
@@ -31,8 +32,8 @@ impl Refusal {
             4 => "a duty's period is not between 1 and 1,000,000",
             5 => "a duty's service is not between 1 and its period",
             6 => "a duty's slice is not whole",
-            7 => "the slices add up to more than the engines can serve",
-            8 => "the buffer is shorter than what is to be written",
+            7 => "the duties need more than the engines can serve",
+            8 => "what was lent is shorter than what is to be written",
             10 => "the bytes are not in the form of a table",
             11 => "the block length is not the greatest common divisor of the periods",
             12 => "a slice in the table is not whole",
@@ -45,6 +46,8 @@ impl Refusal {
             19 => "a count may span at most 1,000,000,000,000 blocks",
             20 => "the dispatcher's state is not the one for its block",
             21 => "the dispatcher is at the last block",
+            22 => "there are more than 4,096 blocks up to the periods' least common multiple",
+            23 => "SA2's steps would give a duty fewer than 0 units, or a block more units than the engines have",
             255 => "the lent answer is too short",
             _ => "a number that is not listed",
         }
@@ -54,9 +57,10 @@ impl Refusal {
     fn place_is(&self) -> Option<&'static str> {
         match self.number {
             4 | 5 | 6 | 12 | 17 => Some("duty"),
-            8 => Some("bytes needed:"),
+            8 => Some("needed:"),
             10 => Some("record at byte"),
             13..=16 => Some("run"),
+            23 => Some("block"),
             255 => Some("entries needed:"),
             _ => None,
         }
