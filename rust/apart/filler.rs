@@ -15,14 +15,15 @@ pub struct Block {
     pub rows: Vec<Vec<Option<u8>>>,
 }
 
-fn common_divisor(numbers: impl Iterator<Item = u64> + Clone) -> u64 {
+/// The greatest common divisor of numbers, none of them 0.
+pub fn common_divisor(numbers: impl Iterator<Item = u64> + Clone) -> u64 {
     // the greatest number that divides them all, tried from the top
     let most = numbers.clone().min().unwrap_or(0);
     (1..=most).rev().find(|d| numbers.clone().all(|x| x % d == 0)).unwrap_or(0)
 }
 
-/// Fills one block from the duties, one unit after the other.
-pub fn fill(engines: u64, services: &[u32], periods: &[u32]) -> Result<Block, Refused> {
+/// The duties of two lists, or the first of 1 to 5 that there is.
+pub fn duties(engines: u64, services: &[u32], periods: &[u32]) -> Result<Vec<Duty>, Refused> {
     if engines == 0 || engines > 32 {
         return Err((1, 0));
     }
@@ -41,6 +42,12 @@ pub fn fill(engines: u64, services: &[u32], periods: &[u32]) -> Result<Block, Re
             return Err((5, i as u64));
         }
     }
+    Ok(duties)
+}
+
+/// Fills one block from the duties, one unit after the other.
+pub fn fill(engines: u64, services: &[u32], periods: &[u32]) -> Result<Block, Refused> {
+    let duties = duties(engines, services, periods)?;
     let ticks = common_divisor(duties.iter().map(|x| x.1));
     for (i, &(c, d)) in duties.iter().enumerate() {
         if c % (d / ticks) != 0 {

@@ -29,8 +29,8 @@ fn gcd(mut a: u32, mut b: u32) -> u32 {
     a
 }
 
-/// Builds a table, as the library's builder does.
-pub fn build(engines: u32, services: &[u32], periods: &[u32], out: &mut [u8]) -> Result<usize, Refused> {
+/// Refusals 1 to 5.
+fn in_range(engines: u32, services: &[u32], periods: &[u32]) -> Result<(), Refused> {
     if !(1..=32).contains(&engines) {
         return Err((1, 0));
     }
@@ -48,6 +48,12 @@ pub fn build(engines: u32, services: &[u32], periods: &[u32], out: &mut [u8]) ->
             return Err((5, i as u64));
         }
     }
+    Ok(())
+}
+
+/// Builds a table, as the library's builder does.
+pub fn build(engines: u32, services: &[u32], periods: &[u32], out: &mut [u8]) -> Result<usize, Refused> {
+    in_range(engines, services, periods)?;
     let t = periods.iter().fold(0, |g, &d| gcd(g, d));
     for (i, (&c, &d)) in services.iter().zip(periods).enumerate() {
         if t as u64 * c as u64 % d as u64 != 0 {
@@ -311,4 +317,152 @@ pub fn count(b: &[u8], blocks: u64) -> Result<u64, Refused> {
         }
     }
     Ok(plan.runs as u64 + (blocks - 1) * (plan.runs as u64 - carried))
+}
+
+/// The block length and the blocks of duties for shares, after refusals 1 to 5, 22 and 7.
+pub fn blocks_of(engines: u32, services: &[u32], periods: &[u32]) -> Result<(u32, u32), Refused> {
+    in_range(engines, services, periods)?;
+    let t = periods.iter().fold(0, |g, &d| gcd(g, d));
+    let most = 4_096 * t as u64;
+    let mut all = t as u64;
+    for &d in periods {
+        all *= (d / gcd(d, (all % d as u64) as u32)) as u64;
+        if all > most {
+            return Err((22, 0));
+        }
+    }
+    let load: u64 = services.iter().zip(periods).map(|(&c, &d)| c as u64 * (all / d as u64)).sum();
+    if load > engines as u64 * all {
+        return Err((7, 0));
+    }
+    Ok((t, (all / t as u64) as u32))
+}
+
+/// A duty on its way from block to block: it needs `whole + part / below`, and `slice + over / below` more in each block.
+#[derive(Clone, Copy, Default)]
+struct Way {
+    whole: i32,
+    part: u32,
+    below: u32,
+    slice: i32,
+    over: u32,
+}
+
+/// Duties that were looked at for shares, up to refusal 7.
+#[derive(Clone, Copy)]
+struct Shared {
+    engines: u32,
+    ticks: u32,
+    blocks: u32,
+    duties: usize,
+    ways: [Way; 64],
+}
+
+/// Refusals 1 to 5, 22 and 7.
+fn shared(engines: u32, services: &[u32], periods: &[u32]) -> Result<Shared, Refused> {
+    let (ticks, blocks) = blocks_of(engines, services, periods)?;
+    let mut ways = [Way::default(); 64];
+    for (way, (&c, &d)) in ways.iter_mut().zip(services.iter().zip(periods)) {
+        let below = d / ticks;
+        let (slice, over) = ((c / below) as i32, c % below);
+        *way = Way { whole: slice, part: over, below, slice, over };
+    }
+    Ok(Shared { engines, ticks, blocks, duties: services.len(), ways })
+}
+
+impl Shared {
+    /// One block of SA2: hands over what each duty gets and moves the needs on; false where a duty gets fewer than 0
+    /// units or the block is too full.
+    #[inline(always)]
+    fn block(&mut self, mut give: impl FnMut(usize, i32)) -> bool {
+        let t = self.ticks as i32;
+        let ways = &mut self.ways[..self.duties];
+        let mut free = self.engines as i32 * t - ways.iter().map(|x| x.whole).sum::<i32>();
+        let mut stands = free >= 0;
+        for (i, x) in ways.iter_mut().enumerate() {
+            let chosen = free > 0 && x.part > 0 && x.whole < t;
+            free -= chosen as i32;
+            let units = x.whole + chosen as i32;
+            stands &= units >= 0;
+            give(i, units);
+            x.part += x.over;
+            let carry = x.part >= x.below;
+            if carry {
+                x.part -= x.below;
+            }
+            x.whole = x.slice + carry as i32 - chosen as i32;
+        }
+        stands
+    }
+}
+
+/// What is told of a plan of shares: entries, block length, blocks.
+pub type Told = (usize, u32, u32);
+
+/// SA2's allotments: one pass that looks for 23, then one that writes.
+pub fn shares(engines: u32, services: &[u32], periods: &[u32], out: &mut [u32]) -> Result<Told, Refused> {
+    let mut first = shared(engines, services, periods)?;
+    let needed = first.blocks as usize * first.duties;
+    if out.len() < needed {
+        return Err((8, needed as u64));
+    }
+    let mut again = first;
+    for b in 0..first.blocks {
+        if !first.block(|_, _| {}) {
+            return Err((23, b as u64));
+        }
+    }
+    for block in out[..needed].chunks_exact_mut(again.duties) {
+        again.block(|i, units| block[i] = units as u32);
+    }
+    Ok((needed, first.ticks, first.blocks))
+}
+
+/// The same in one pass, into a list of its own that is copied over at the end.
+pub fn shares_copied(engines: u32, services: &[u32], periods: &[u32], out: &mut [u32]) -> Result<Told, Refused> {
+    let mut first = shared(engines, services, periods)?;
+    let needed = first.blocks as usize * first.duties;
+    if out.len() < needed {
+        return Err((8, needed as u64));
+    }
+    let mut list = vec![0; needed];
+    for (b, block) in list.chunks_exact_mut(first.duties).enumerate() {
+        if !first.block(|i, units| block[i] = units as u32) {
+            return Err((23, b as u64));
+        }
+    }
+    out[..needed].copy_from_slice(&list);
+    Ok((needed, first.ticks, first.blocks))
+}
+
+/// What an engine does at a tick in the plan of shares.
+pub fn share_at(
+    engines: u32,
+    services: &[u32],
+    periods: &[u32],
+    engine: u32,
+    tick: u64,
+) -> Result<Option<u32>, Refused> {
+    let mut first = shared(engines, services, periods)?;
+    let t = first.ticks as u64;
+    let wanted = (tick / t % first.blocks as u64) as u32;
+    let mut units = [0i32; 64];
+    for b in 0..first.blocks {
+        let stands = if b == wanted { first.block(|i, given| units[i] = given) } else { first.block(|_, _| {}) };
+        if !stands {
+            return Err((23, b as u64));
+        }
+    }
+    if engine >= engines {
+        return Err((18, 0));
+    }
+    let place = engine as u64 * t + tick % t;
+    let mut end = 0;
+    for (i, &n) in units[..first.duties].iter().enumerate() {
+        end += n as u64;
+        if place < end {
+            return Ok(Some(i as u32));
+        }
+    }
+    Ok(None)
 }

@@ -31,9 +31,14 @@ pub fn whole_set(random: &mut Random, most_ticks: u64) -> Set {
     Set { engines: engines as u32, services, periods }
 }
 
-/// A set at or past an edge of a range, or of random numbers.
+/// A set with whole slices, changed so that it is at or past an edge of a range, or of random numbers.
 pub fn odd_set(random: &mut Random) -> Set {
-    let mut set = whole_set(random, 40);
+    let set = whole_set(random, 40);
+    made_odd(random, set)
+}
+
+/// Changes a set so that it is at or past an edge of a range, or of random numbers.
+fn made_odd(random: &mut Random, mut set: Set) -> Set {
     let n = set.services.len() as u64;
     let i = random.below(n) as usize;
     match random.below(12) {
@@ -81,6 +86,150 @@ pub fn chained_set(random: &mut Random) -> Set {
         left -= slice;
     }
     Set { engines: engines as u32, periods: vec![ticks as u32; services.len()], services }
+}
+
+/// How many blocks the sets of shares have up to the common multiple: numbers with many divisors, and the edge.
+const COMMON: [u64; 16] = [1, 2, 3, 4, 6, 8, 12, 30, 60, 72, 120, 360, 840, 2_520, 4_095, 4_096];
+
+/// A set for shares: periods that are multiples of a block length, on as many engines as the duties need, with room
+/// left over or none. At most so many blocks, from 1 on.
+pub fn share_set(random: &mut Random, most_ticks: u64, most_blocks: u64) -> Set {
+    let choices = COMMON.iter().take_while(|&&b| b <= most_blocks).count() as u64;
+    let blocks = COMMON[random.below(choices) as usize];
+    let ticks = random.between(1, most_ticks.min(1_000_000 / blocks));
+    let most = if random.once_in(8) { 64 } else { 9 };
+    let count = random.between(1, most);
+    shares_of(random, ticks, blocks, count)
+}
+
+fn one_from(random: &mut Random, numbers: &[u64]) -> u64 {
+    numbers[random.below(numbers.len() as u64) as usize]
+}
+
+/// So many duties with periods that divide `ticks · blocks`: one of all blocks, one of a single block, and others. In
+/// every second set one more, somewhere among them, takes all that the engines have left.
+fn shares_of(random: &mut Random, ticks: u64, blocks: u64, count: u64) -> Set {
+    let divisors: Vec<u64> = (1..=blocks).filter(|b| blocks % b == 0).collect();
+    let all = ticks * blocks;
+    let kind = random.below(3);
+    let mut duties = Vec::new();
+    let mut load = 0;
+    for k in 0..count {
+        let factor = match k {
+            0 => blocks,
+            1 => 1,
+            _ => one_from(random, &divisors),
+        };
+        let period = ticks * factor;
+        let service = match kind {
+            0 => random.between(1, period.div_ceil(6)),
+            1 => period - random.below(factor.min(period)),
+            _ => random.between(1, period),
+        };
+        if load + service * (blocks / factor) <= 32 * all {
+            load += service * (blocks / factor);
+            duties.push((service, period));
+        }
+    }
+    let turned = random.below(duties.len() as u64) as usize;
+    duties.rotate_left(turned);
+    let engines = load.div_ceil(all);
+    let left = engines * all - load;
+    if left > 0 && count < 64 && random.once_in(2) {
+        duties.insert(random.between(0, duties.len() as u64) as usize, (left, all));
+    }
+    set_of(engines, duties)
+}
+
+fn set_of(engines: u64, duties: Vec<(u64, u64)>) -> Set {
+    let (services, periods) = duties.into_iter().map(|(c, d)| (c as u32, d as u32)).unzip();
+    Set { engines: engines as u32, services, periods }
+}
+
+/// A set, mostly full, in which duties that need nearly a whole row stand last: they are passed over until they need
+/// more than a row has, and a unit that lay idle is then missing at the end. The others need at least a unit of each
+/// block, so that none of them is ever ahead by more than it needs.
+pub fn crowded_set(random: &mut Random) -> Set {
+    let blocks = one_from(random, &[6, 12, 24, 60, 120, 360]);
+    let ticks = one_from(random, &[2, 3, 5, 10]);
+    let engines = random.between(3, 8);
+    let all = ticks * blocks;
+    let divisors: Vec<u64> = (2..=blocks).filter(|b| blocks % b == 0).collect();
+    let mut left = engines * all;
+    let mut put = |list: &mut Vec<(u64, u64)>, factor: u64, service: u64| {
+        left -= service * (blocks / factor);
+        list.push((service, ticks * factor));
+        left
+    };
+    let (mut light, mut heavy) = (Vec::new(), Vec::new());
+    let mut rest = engines * all;
+    for _ in 0..engines - 1 {
+        let factor = one_from(random, &divisors);
+        rest = put(&mut heavy, factor, ticks * factor - random.between(1, (factor / 2).max(1)));
+    }
+    for _ in 0..random.between(1, 4) {
+        let factor = one_from(random, &divisors);
+        let most = (rest / (blocks / factor)).min(ticks * factor);
+        if most > factor {
+            rest = put(&mut light, factor, random.between(factor, most));
+        }
+    }
+    if (blocks..=all).contains(&rest) {
+        put(&mut light, blocks, rest);
+    }
+    light.extend(heavy);
+    set_of(engines, light)
+}
+
+/// A full set of duties that need less than a unit of each block, but for one: whoever got a unit is ahead for many
+/// blocks, and has none to give back where the others need all there are.
+pub fn ahead_set(random: &mut Random) -> Set {
+    let blocks = one_from(random, &[6, 10, 12, 30, 60, 360]);
+    let ticks = random.between(1, 3);
+    let engines = random.between(1, 2);
+    let all = ticks * blocks;
+    let divisors: Vec<u64> = (2..=blocks).filter(|b| blocks % b == 0).collect();
+    let mut left = engines * all;
+    let mut duties = Vec::new();
+    while left > 0 && duties.len() < 40 && !(left <= all && random.once_in(5)) {
+        let factor = one_from(random, &divisors);
+        let service = random.between(1, factor).min(left / (blocks / factor));
+        if service > 0 {
+            left -= service * (blocks / factor);
+            duties.push((service, ticks * factor));
+        }
+    }
+    if (1..=all).contains(&left) {
+        duties.insert(random.between(0, duties.len() as u64) as usize, (left, all));
+    }
+    set_of(engines, duties)
+}
+
+/// Sets that are refused with 23: the smallest at all, the smallest in which no duty is below 0 and a block is too
+/// full, the smallest that meets the condition of the paper's theorem 3.3, and two with blocks of 10.
+pub fn refused_sets() -> Vec<Set> {
+    vec![
+        set_of(1, vec![(1, 2), (1, 6), (1, 3)]),
+        set_of(3, vec![(2, 3), (2, 3), (3, 4), (11, 12)]),
+        set_of(1, vec![(3, 6), (1, 18), (4, 9)]),
+        set_of(1, vec![(9, 20), (1, 60), (16, 30)]),
+        set_of(3, vec![(28, 30), (119, 120), (1, 20), (1, 20), (117, 120)]),
+    ]
+}
+
+/// Periods whose common multiple is 4,096 blocks, or a few more or less.
+pub fn long_set(random: &mut Random) -> Set {
+    let blocks = random.between(4_092, 4_098);
+    let ticks = random.between(1, 1_000_000 / blocks);
+    let most = if random.once_in(6) { 64 } else { 6 };
+    let count = random.between(1, most);
+    shares_of(random, ticks, blocks, count)
+}
+
+/// A set for shares, changed so that it is at or past an edge of a range, or of random numbers.
+pub fn odd_share_set(random: &mut Random) -> Set {
+    let set = share_set(random, 40, 120);
+    made_odd(random, set)
 }
 
 /// Changes bytes of a table: fields of a record set to other values, records swapped or doubled, cuts and additions.

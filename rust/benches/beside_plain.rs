@@ -6,6 +6,8 @@
 //! ratio is library over plain Rust, below 1 is faster, with the middle half of the rounds as its spread. The buffers are
 //! written over from round to round and not cleared in between.
 
+#[path = "../apart/lanes.rs"]
+mod lanes;
 #[allow(dead_code)]
 #[path = "../apart/plain.rs"]
 mod plain;
@@ -58,6 +60,101 @@ fn duties(n: usize) -> (u32, Vec<u32>, Vec<u32>) {
     let periods: Vec<u32> = (0..n as u32).map(|i| 240 * (1 + i % 4)).collect();
     let total: u32 = (0..n as u32).map(|i| 60 + 7 * (i % 11)).sum();
     (total.div_ceil(240).clamp(1, 32), services, periods)
+}
+
+/// A full set for shares of so many blocks and duties: a block has 240 ticks, all shares but one are not whole, and the
+/// last duty takes what the engines have left.
+fn share_duties(blocks: u32, n: usize) -> (u32, Vec<u32>, Vec<u32>) {
+    let all = 240 * blocks as u64;
+    let (mut services, mut periods, mut load) = (Vec::new(), Vec::new(), 0);
+    for i in 0..n as u32 - 1 {
+        let factor = if i == 0 { 1 } else { (blocks >> (i % 3)).max(1) };
+        let service = (60 + 7 * (i % 11)) * factor + factor / 3;
+        services.push(service);
+        periods.push(240 * factor);
+        load += service as u64 * (blocks / factor) as u64;
+    }
+    let engines = load / all + 1;
+    services.push((engines * all - load) as u32);
+    periods.push(all as u32);
+    (engines as u32, services, periods)
+}
+
+/// A way to write the allotments in plain Rust.
+type Plain = fn(u32, &[u32], &[u32], &mut [u32]) -> Result<plain::Told, plain::Refused>;
+
+/// A way to answer the question in Rust.
+type PlainAt = fn(u32, &[u32], &[u32], u32, u64) -> Result<Option<u32>, plain::Refused>;
+
+/// The quicker of the two plain ways for a set, by the least time of some calls.
+fn quicker(blocks: u32, n: usize) -> (&'static str, Plain) {
+    let (engines, services, periods) = share_duties(blocks, n);
+    let mut out = vec![0u32; blocks as usize * n];
+    let mut least = |way: Plain| {
+        let timed = |_| {
+            let start = Instant::now();
+            let _ = black_box(way(engines, black_box(&services), black_box(&periods), &mut out));
+            start.elapsed()
+        };
+        (0..40).map(timed).min()
+    };
+    if least(plain::shares) <= least(plain::shares_copied) {
+        ("in two passes", plain::shares)
+    } else {
+        ("copied over", plain::shares_copied)
+    }
+}
+
+/// The allotments of a set by the library and in Rust, which has to write the same.
+fn list(name: &str, blocks: u32, n: usize, theirs: Plain) {
+    let (engines, services, periods) = share_duties(blocks, n);
+    let entries = blocks as usize * n;
+    let (mut out, mut other) = (vec![0u32; entries], vec![0u32; entries]);
+    let told = calls::shares(engines, &services, &periods, &mut out);
+    assert!(told.is_ok_and(|r| r.blocks == blocks), "{told:?}");
+    beside(
+        name,
+        (200_000 / entries).clamp(1, 5_000),
+        || {
+            let _ = black_box(calls::shares(black_box(engines), black_box(&services), black_box(&periods), &mut out));
+        },
+        || {
+            let _ = black_box(theirs(black_box(engines), black_box(&services), black_box(&periods), &mut other));
+        },
+    );
+    assert!(out == other);
+}
+
+/// The question of a plan of shares by the library and in Rust.
+fn question_of_shares(name: &str, blocks: u32, n: usize, theirs: PlainAt) {
+    let (engines, services, periods) = share_duties(blocks, n);
+    let (mut tick, mut also) = (u64::MAX, u64::MAX);
+    beside(
+        name,
+        (200_000 / (blocks as usize * n)).clamp(1, 5_000),
+        || {
+            tick = tick.wrapping_sub(977);
+            let _ = black_box(calls::share_at(engines, black_box(&services), black_box(&periods), Engine(0), tick));
+        },
+        || {
+            also = also.wrapping_sub(977);
+            let _ = black_box(theirs(engines, black_box(&services), black_box(&periods), 0, also));
+        },
+    );
+}
+
+/// The allotments and the question of a plan of shares beside plain Rust.
+fn shares(blocks: u32, n: usize) {
+    let (way, plainly) = quicker(blocks, n);
+    list(&format!("shares, {blocks} blocks, {n} duties (plain Rust {way})"), blocks, n, plainly);
+    question_of_shares(&format!("question of shares, {blocks} blocks, {n} duties"), blocks, n, plain::share_at);
+}
+
+/// The same beside Rust that is written for the processor's lanes.
+fn shares_in_lanes(blocks: u32, n: usize) {
+    list(&format!("shares, {blocks} blocks, {n} duties, beside lanes of eight by hand"), blocks, n, lanes::shares);
+    let name = format!("question of shares, {blocks} blocks, {n} duties, beside lanes of eight by hand");
+    question_of_shares(&name, blocks, n, lanes::share_at);
 }
 
 /// A table of so many runs: one row for each engine, each duty with short runs and gaps between them.
@@ -178,4 +275,8 @@ fn main() {
             },
         );
     }
+    for (blocks, n) in [(1, 64), (64, 8), (512, 64), (4_096, 8), (4_096, 64)] {
+        shares(blocks, n);
+    }
+    shares_in_lanes(4096, 64);
 }

@@ -1,11 +1,12 @@
-//! The second program: compares the proved library with a planner written apart that fills blocks tick by tick, on many
-//! sets and patched tables.
+//! The second program: compares the proved library with planners written apart that fill blocks tick by tick, on many
+//! sets and patched tables, and on as many sets for plans of shares.
 //!
-//!     cargo run --release --example compare -- [SETS] [--plant backwards|one-ring|never]
+//!     cargo run --release --example compare -- [SETS] [--plant ERROR]
 //!
-//! It says how many it compared and which refusals and chain lengths it met, and ends with status 1 at the first
-//! difference, or where it did not meet all of them. With --plant the second planner has an error that looks right,
-//! which must be seen.
+//! It says how many it compared and which refusals, chain lengths and causes of 23 it met, and ends with status 1 at
+//! the first difference, or where it did not meet all of them. With --plant the second planner has an error that looks
+//! right, which must be seen: backwards, one-ring or never in how rows move; last-chosen, forgets-need or negative-as-0
+//! in the steps for shares.
 
 #[path = "../apart/filler.rs"]
 mod filler;
@@ -13,14 +14,19 @@ mod filler;
 mod random;
 #[path = "../apart/sets.rs"]
 mod sets;
+#[path = "../apart/shares.rs"]
+mod shares;
+#[path = "compare/shares.rs"]
+mod shares_compared;
 
 use filler::{Block, Refused, Turn, Walk};
 use random::Random;
 use sets::Set;
+use shares::Steps;
 use std::collections::BTreeSet;
 use tickplume::{calls, Engine, Held, Refusal};
 
-const SHARES: u64 = 8;
+const PARTS: u64 = 8;
 
 #[derive(Default)]
 struct Seen {
@@ -33,6 +39,14 @@ struct Seen {
     refusals: BTreeSet<u8>,
     chains: BTreeSet<usize>,
     block_lengths: BTreeSet<u64>,
+    shares: shares_compared::Seen,
+}
+
+/// What the second program does, and where it has an error planted.
+#[derive(Clone, Copy)]
+struct Apart {
+    turn: Turn,
+    steps: Steps,
 }
 
 fn as_pair(refusal: Refusal) -> Refused {
@@ -220,13 +234,25 @@ impl Seen {
         self.refusals.extend(other.refusals);
         self.chains.extend(other.chains);
         self.block_lengths.extend(other.block_lengths);
+        self.shares.add(other.shares);
+    }
+
+    /// Whether every refusal, chain length and cause was met.
+    fn all(&self) -> bool {
+        (1..=8).chain(10..=21).all(|n| self.refusals.contains(&n))
+            && (1..=32).all(|n| self.chains.contains(&n))
+            && self.shares.all()
     }
 }
 
-/// So many sets, drawn from a seed.
-fn share(seed: u64, sets: u64, turn: Turn) -> Result<Seen, String> {
+/// So many sets of each kind, drawn from a seed.
+fn part(seed: u64, sets: u64, apart: Apart) -> Result<Seen, String> {
     let mut seen = Seen::default();
     let mut random = Random::new(seed);
+    let mut other = Random::new(seed + 1_000);
+    for set in sets::refused_sets() {
+        shares_compared::compare(&mut seen.shares, &mut other, &set, apart.steps)?;
+    }
     for k in 0..sets {
         let set = match k % 8 {
             0..=2 => sets::whole_set(&mut random, 24),
@@ -234,42 +260,53 @@ fn share(seed: u64, sets: u64, turn: Turn) -> Result<Seen, String> {
             4 | 5 => sets::chained_set(&mut random),
             _ => sets::odd_set(&mut random),
         };
-        compare_set(&mut seen, &mut random, &set, turn)?;
+        compare_set(&mut seen, &mut random, &set, apart.turn)?;
+        let set = shares_compared::draw(&mut other, k);
+        shares_compared::compare(&mut seen.shares, &mut other, &set, apart.steps)?;
     }
     Ok(seen)
 }
 
-/// All sets, in shares that run side by side; each share has a seed of its own, so what is compared does not depend on the machine.
-fn run(sets: u64, turn: Turn) -> Result<Seen, String> {
-    let shares: Vec<_> = std::thread::scope(|scope| {
-        let started: Vec<_> = (0..SHARES).map(|k| scope.spawn(move || share(2004 + k, sets / SHARES, turn))).collect();
-        started.into_iter().map(|one| one.join().expect("a share that ends")).collect()
+/// All sets, in parts that run side by side; each part has a seed of its own, so what is compared does not depend on
+/// the machine.
+fn run(sets: u64, apart: Apart) -> Result<Seen, String> {
+    let parts: Vec<_> = std::thread::scope(|scope| {
+        let started: Vec<_> = (0..PARTS).map(|k| scope.spawn(move || part(2004 + k, sets / PARTS, apart))).collect();
+        started.into_iter().map(|one| one.join().expect("a part that ends")).collect()
     });
     let mut all = Seen::default();
-    for one in shares {
+    for one in parts {
         all.add(one?);
     }
     Ok(all)
 }
 
+/// The second program with the error of this name.
+fn planted(name: &str) -> Apart {
+    let turned = |turn| Apart { turn, steps: Steps::Published };
+    let stepped = |steps| Apart { turn: Turn::Published, steps };
+    match name {
+        "backwards" => turned(Turn::Backwards),
+        "one-ring" => turned(Turn::OneRing),
+        "never" => turned(Turn::Never),
+        "last-chosen" => stepped(Steps::LastChosen),
+        "forgets-need" => stepped(Steps::ForgetsNeed),
+        "negative-as-0" => stepped(Steps::NegativeAsZero),
+        other => panic!("there is no error {other} to plant"),
+    }
+}
+
 fn main() {
     let mut sets = 2400;
-    let mut turn = Turn::Published;
+    let mut apart = Apart { turn: Turn::Published, steps: Steps::Published };
     let mut words = std::env::args().skip(1);
     while let Some(word) = words.next() {
         match word.as_str() {
-            "--plant" => {
-                turn = match words.next().as_deref() {
-                    Some("backwards") => Turn::Backwards,
-                    Some("one-ring") => Turn::OneRing,
-                    Some("never") => Turn::Never,
-                    other => panic!("--plant backwards|one-ring|never, not {other:?}"),
-                }
-            }
+            "--plant" => apart = planted(&words.next().expect("the name of an error")),
             number => sets = number.parse().expect("a number of sets"),
         }
     }
-    match run(sets, turn) {
+    match run(sets, apart) {
         Err(difference) => {
             println!("{difference}");
             std::process::exit(1);
@@ -281,10 +318,14 @@ fn main() {
             );
             println!("refusals met: {:?}", seen.refusals);
             println!("chain lengths met: {:?}; block lengths met: {}", seen.chains, seen.block_lengths.len());
-            let all = (1..=8).chain(10..=21).all(|n| seen.refusals.contains(&n))
-                && (1..=32).all(|n| seen.chains.contains(&n));
-            if !all {
-                println!("not every refusal and chain length was met");
+            let shares = &seen.shares;
+            println!(
+                "compared {} sets for shares, {} plans, {} questions",
+                shares.sets, shares.plans, shares.questions
+            );
+            println!("refusals met: {:?}; causes of 23, and how often: {:?}", shares.refusals, shares.causes);
+            if !seen.all() {
+                println!("not every refusal, chain length and cause was met");
                 std::process::exit(1);
             }
         }

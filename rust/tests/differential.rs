@@ -1,6 +1,6 @@
 //! The library beside an independent implementation in plain Rust: random duty sets, valid, faulty and at the edges of
 //! every range; tables built, patched, cut, extended and bit-flipped; questions near tick 0, anywhere and near 2^64;
-//! dispatcher states valid, stale and made up; counts up to 10^12.
+//! dispatcher states valid, stale and made up; counts up to 10^12; plans of shares, and questions about them.
 //!
 //! TICKPLUME_COMPARISONS sets how many comparisons are made at the least, in all (200,000 by default). The seeds 1 to 8
 //! have equal shares of them, or TICKPLUME_SEED, any 64-bit number, has them all. Above 1,000,000 the progress is shown.
@@ -13,10 +13,19 @@ mod random;
 mod sets;
 
 use random::Random;
+use sets::Set;
 use tickplume::{calls, Engine, Held, Refusal};
 
 fn pair(refusal: Refusal) -> (u8, u64) {
     (refusal.number, refusal.place)
+}
+
+/// The number of a duty, or none where an engine is idle.
+fn duty(held: Held) -> Option<u32> {
+    match held {
+        Held::Idle => None,
+        Held::Duty(i) => Some(i),
+    }
 }
 
 fn setting(name: &str) -> Option<u64> {
@@ -28,6 +37,7 @@ fn setting(name: &str) -> Option<u64> {
 struct Comparison {
     made: u64,
     accepted: u64,
+    plans: u64,
 }
 
 impl Comparison {
@@ -57,6 +67,8 @@ impl Comparison {
         }
         let noise: Vec<u8> = (0..random.below(60)).map(|_| random.below(5) as u8).collect();
         self.table(random, &noise);
+        let set = share_set(random);
+        self.shares(random, &set);
     }
 
     fn same<T: PartialEq + std::fmt::Debug>(&mut self, what: &str, ours: T, theirs: T, about: &dyn std::fmt::Debug) {
@@ -80,6 +92,29 @@ impl Comparison {
         a.ok().map(|n| ours[..n].to_vec())
     }
 
+    /// A plan of shares in a list that is long enough or not, and questions of it.
+    fn shares(&mut self, random: &mut Random, set: &Set) {
+        let room = if random.once_in(4) { random.below(600) as usize } else { 40_000 };
+        let lent = vec![7u32; room];
+        let (mut ours, mut first, mut other) = (lent.clone(), lent.clone(), lent);
+        let a = calls::shares(set.engines, &set.services, &set.periods, &mut ours).map_err(pair);
+        let a = a.map(|r| (r.entries, r.block_length, r.blocks));
+        let b = plain::shares(set.engines, &set.services, &set.periods, &mut first);
+        let c = plain::shares_copied(set.engines, &set.services, &set.periods, &mut other);
+        self.same("shares", a, b, set);
+        self.same("shares, copied", a, c, set);
+        self.same("the allotments", &ours, &first, set);
+        self.same("the allotments, copied", &ours, &other, set);
+        self.plans += a.is_ok() as u64;
+        for _ in 0..6 {
+            let engine = random.below(set.engines as u64 + 2) as u32;
+            let tick = far(random);
+            let held = calls::share_at(set.engines, &set.services, &set.periods, Engine(engine), tick);
+            let theirs = plain::share_at(set.engines, &set.services, &set.periods, engine, tick);
+            self.same("share_at", held.map(duty).map_err(pair), theirs, &(engine, tick, set));
+        }
+    }
+
     fn table(&mut self, random: &mut Random, table: &[u8]) {
         let ours = calls::judge(table).map(|r| (r.block_length, r.engines, r.duties, r.runs)).map_err(pair);
         let theirs = plain::judge(table).map(|p| (p.block_length, p.engines, p.duties, p.runs));
@@ -97,15 +132,7 @@ impl Comparison {
         let most = if random.once_in(20) { 1 << 32 } else { 34 };
         let engine = random.below(most) as u32;
         let tick = far(random);
-        let ours = calls::question(table, Engine(engine), tick).map_err(pair).map(|r| {
-            (
-                r.row.0,
-                match r.held {
-                    Held::Idle => None,
-                    Held::Duty(i) => Some(i),
-                },
-            )
-        });
+        let ours = calls::question(table, Engine(engine), tick).map_err(pair).map(|r| (r.row.0, duty(r.held)));
         self.same("question", ours, plain::question(table, engine, tick), &(engine, tick, table));
     }
 
@@ -137,6 +164,18 @@ impl Comparison {
         let b = plain::next(table, &mut theirs);
         self.same("next", a, b, &(state, table));
         self.same("the next state", ours, theirs, &table);
+    }
+}
+
+/// A set for shares, seldom one of some 4,096 blocks.
+fn share_set(random: &mut Random) -> Set {
+    match random.below(6) {
+        0 => sets::share_set(random, 1_000_000, 60),
+        1 if random.once_in(20) => sets::long_set(random),
+        2 => sets::ahead_set(random),
+        3 => sets::crowded_set(random),
+        4 => sets::odd_share_set(random),
+        _ => sets::share_set(random, 10, 360),
     }
 }
 
@@ -180,6 +219,20 @@ fn any_bytes_are_patched_and_judged_alike() {
 }
 
 #[test]
+fn sets_that_have_no_plan_of_shares_are_refused_alike() {
+    let mut random = Random::new(1);
+    let mut comparison = Comparison::default();
+    for set in sets::refused_sets() {
+        let refusal = calls::shares(set.engines, &set.services, &set.periods, &mut [0; 100]).unwrap_err();
+        assert_eq!(refusal.number, 23);
+        for _ in 0..20 {
+            comparison.shares(&mut random, &set);
+        }
+    }
+    assert_eq!(comparison.plans, 0);
+}
+
+#[test]
 fn the_library_and_plain_rust_agree() {
     let wanted = setting("TICKPLUME_COMPARISONS").unwrap_or(200_000);
     let seeds = setting("TICKPLUME_SEED").map_or_else(|| (1..=8).collect(), |seed| vec![seed]);
@@ -187,6 +240,10 @@ fn the_library_and_plain_rust_agree() {
     for &seed in &seeds {
         comparison.draw(seed, wanted.div_ceil(seeds.len() as u64), wanted > 1_000_000);
     }
-    println!("{} comparisons, {} accepted tables", comparison.made, comparison.accepted);
+    println!(
+        "{} comparisons, {} accepted tables, {} plans of shares",
+        comparison.made, comparison.accepted, comparison.plans
+    );
     assert!(comparison.accepted * 20 > comparison.made / 30, "too few accepted tables");
+    assert!(comparison.plans * 20 > comparison.made / 30, "too few plans of shares");
 }

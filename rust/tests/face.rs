@@ -29,6 +29,28 @@ extern "C" {
     ) -> u64;
     fn tickplume_next(t: *const u8, n: usize, state: *mut u64, state_len: usize) -> u64;
     fn tickplume_count(t: *const u8, n: usize, blocks: u64, answer: *mut u64, answer_len: usize) -> u64;
+    fn tickplume_shares(
+        engines: u32,
+        services: *const u32,
+        services_len: usize,
+        periods: *const u32,
+        periods_len: usize,
+        allotments: *mut u32,
+        allotments_len: usize,
+        answer: *mut u64,
+        answer_len: usize,
+    ) -> u64;
+    fn tickplume_share_at(
+        engines: u32,
+        services: *const u32,
+        services_len: usize,
+        periods: *const u32,
+        periods_len: usize,
+        engine: u32,
+        tick: u64,
+        answer: *mut u64,
+        answer_len: usize,
+    ) -> u64;
 }
 
 const MARK: u64 = 0xa5a5_a5a5_a5a5_a5a5;
@@ -116,4 +138,121 @@ fn entries_past_the_answer_stay() {
     expected[..3].copy_from_slice(&[7, 1, 0]);
     expected[33..].fill(MARK);
     assert_eq!(state, expected);
+}
+
+/// `tickplume_shares` on one engine, with an answer of so many entries.
+fn shares(services: &[u32], periods: &[u32], allotments: &mut [u32], answer: &mut [u64]) -> u64 {
+    unsafe {
+        tickplume_shares(
+            1,
+            services.as_ptr(),
+            services.len(),
+            periods.as_ptr(),
+            periods.len(),
+            allotments.as_mut_ptr(),
+            allotments.len(),
+            answer.as_mut_ptr(),
+            answer.len(),
+        )
+    }
+}
+
+/// `tickplume_share_at` on one engine.
+fn share_at(services: &[u32], periods: &[u32], engine: u32, tick: u64, answer: &mut [u64]) -> u64 {
+    unsafe {
+        tickplume_share_at(
+            1,
+            services.as_ptr(),
+            services.len(),
+            periods.as_ptr(),
+            periods.len(),
+            engine,
+            tick,
+            answer.as_mut_ptr(),
+            answer.len(),
+        )
+    }
+}
+
+#[test]
+fn a_short_answer_for_shares_is_refused_before_all_else() {
+    // lists of different lengths, no room and no such engine: still 255 first
+    let mut answer = [MARK; 4];
+    for n in 0..3 {
+        assert_eq!(shares(&[], &[1], &mut [], &mut answer[..n]), refusal(255, 3));
+    }
+    assert_eq!(share_at(&[], &[1], 7, 0, &mut answer[..0]), refusal(255, 1));
+    assert_eq!(answer, [MARK; 4]);
+}
+
+#[test]
+fn refusals_of_shares_leave_the_answer_and_the_allotments() {
+    let mut answer = [MARK; 4];
+    let mut list = [7u32; 20];
+    let mut refused = |services: &[u32], periods: &[u32], room: usize| {
+        let word = shares(services, periods, &mut list[..room], &mut answer);
+        assert_eq!((answer, list), ([MARK; 4], [7; 20]));
+        word
+    };
+    assert_eq!(refused(&[1], &[1, 1], 20), refusal(2, 0));
+    assert_eq!(refused(&[], &[], 20), refusal(3, 0));
+    assert_eq!(refused(&[1, 1], &[1, 0], 20), refusal(4, 1));
+    assert_eq!(refused(&[1, 2], &[1, 1], 20), refusal(5, 1));
+    // 1 and 4,097 ticks: 4,097 blocks, which stands before 7
+    assert_eq!(refused(&[1, 4_097], &[1, 4_097], 20), refusal(22, 0));
+    // no room, which 7 stands before
+    assert_eq!(refused(&[1, 1], &[1, 4_096], 0), refusal(7, 0));
+    // the smallest set that SA2 has no plan for: first the room, then 23
+    assert_eq!(refused(&[1, 1, 1], &[2, 6, 3], 17), refusal(8, 18));
+    assert_eq!(refused(&[1, 1, 1], &[2, 6, 3], 18), refusal(23, 2));
+    assert_eq!(refused(&[1, 1, 1], &[2, 6, 3], 0), refusal(8, 18));
+}
+
+#[test]
+fn refusals_of_a_question_about_shares_leave_the_answer() {
+    let mut answer = [MARK; 3];
+    let mut refused = |services: &[u32], periods: &[u32], engine: u32| {
+        let word = share_at(services, periods, engine, u64::MAX, &mut answer);
+        assert_eq!(answer, [MARK; 3]);
+        word
+    };
+    assert_eq!(refused(&[1], &[1, 1], 0), refusal(2, 0));
+    assert_eq!(refused(&[1, 1], &[1, 4_097], 0), refusal(22, 0));
+    assert_eq!(refused(&[1, 1], &[1, 1], 0), refusal(7, 0));
+    // 23 stands before 18
+    assert_eq!(refused(&[1, 1, 1], &[2, 6, 3], 1), refusal(23, 2));
+    assert_eq!(refused(&[1], &[2], 1), refusal(18, 0));
+    assert_eq!(refused(&[1], &[2], u32::MAX), refusal(18, 0));
+}
+
+#[test]
+fn entries_past_the_answers_of_shares_stay() {
+    let mut answer = [MARK; 5];
+    let mut list = [7u32; 6];
+    assert_eq!(shares(&[1, 1], &[2, 4], &mut list, &mut answer), 0);
+    assert_eq!((list, answer), ([1, 1, 1, 0, 7, 7], [4, 2, 2, MARK, MARK]));
+    // ticks 0 to 3, and the same again up to 2^64 - 1
+    for (tick, held) in [(0, 0), (1, 1), (2, 0), (3, u64::MAX), (4, 0), (5, 1), (u64::MAX - 1, 0), (u64::MAX, u64::MAX)]
+    {
+        let mut answer = [MARK; 2];
+        assert_eq!(share_at(&[1, 1], &[2, 4], 0, tick, &mut answer), 0);
+        assert_eq!(answer, [held, MARK]);
+    }
+}
+
+#[test]
+fn the_longest_plan_of_shares() {
+    // 64 duties, half of them with a period of all 4,096 blocks
+    let services: Vec<u32> = (0..64).map(|i| if i % 2 == 0 { 1 } else { 35 }).collect();
+    let periods: Vec<u32> = (0..64).map(|i| if i % 2 == 0 { 70 } else { 4_096 * 70 }).collect();
+    let mut answer = [MARK; 3];
+    assert_eq!(shares(&services, &periods, &mut [], &mut answer), refusal(8, 262_144));
+    let mut list = vec![7u32; 262_145];
+    assert_eq!(shares(&services, &periods, &mut list, &mut answer), 0);
+    assert_eq!(answer, [262_144, 70, 4_096]);
+    for i in 0..64 {
+        let units: u64 = (0..4_096).map(|b| u64::from(list[b * 64 + i])).sum();
+        assert_eq!(units, if i % 2 == 0 { 4_096 } else { 35 });
+    }
+    assert_eq!(list[262_144], 7);
 }
