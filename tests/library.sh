@@ -1,6 +1,6 @@
 #!/usr/bin/env bash
-# The library as its callers link it, natively on this machine: the C example (as C and as C++), the Rust crate's tests, the comparison
-# with the planner written apart, and the same comparison with errors planted, which must be seen; and how much stack the calls use.
+# The library as its callers link it, natively on this machine: the C examples (as C and as C++), the Rust crate's tests, the comparison
+# with the planners written apart, and the same comparison with errors planted, which must be seen; and how much stack the calls use.
 set -u
 cd "$(dirname "$0")/.." || exit 2
 
@@ -19,24 +19,32 @@ sh scripts/native-library tickplume || exit 1
 
 build=$(mktemp -d)
 trap 'rm -rf "$build"' EXIT
-gcc -std=c11 -Wall -Wextra -Werror -pedantic -O1 -Iinclude examples/simulator.c -Ltarget/native -ltickplume -o "$build/simulator" || exit 1
-g++ -std=c++17 -Wall -Wextra -Werror -pedantic -O1 -Iinclude -x c++ examples/simulator.c -x none -Ltarget/native -ltickplume -o "$build/simulator++" || exit 1
-for program in simulator simulator++; do
-    "$build/$program" | diff -u tests/expected/simulator - || { echo "the C example writes something else ($program)"; exit 1; }
-done
+# c_example NAME EXPECTED: builds examples/NAME.c as C and as C++ and compares what each writes with tests/expected/EXPECTED.
+c_example() {
+    strict="-Wall -Wextra -Werror -pedantic -O1 -Iinclude"
+    # shellcheck disable=SC2086
+    gcc -std=c11 $strict "examples/$1.c" -Ltarget/native -ltickplume -o "$build/$1" || exit 1
+    # shellcheck disable=SC2086
+    g++ -std=c++17 $strict -x c++ "examples/$1.c" -x none -Ltarget/native -ltickplume -o "$build/$1++" || exit 1
+    for program in "$1" "$1++"; do
+        "$build/$program" | diff -u "tests/expected/$2" - || { echo "the C example writes something else ($program)"; exit 1; }
+    done
+}
+c_example simulator simulator
+c_example shares shares-c
 
 gcc -std=c11 -Wall -Wextra -Werror -O1 -Iinclude tests/stack.c -Ltarget/native -ltickplume -pthread -o "$build/stack" || exit 1
 "$build/stack" || { echo "a call was refused, or uses too much stack"; exit 1; }
 
 (cd rust && cargo test --offline --release -q 2>&1) || exit 1
-for program in boundaries stretches; do
+for program in boundaries stretches shares orders; do
     (cd rust && cargo run --offline --release -q --example "$program") | diff -u "tests/expected/$program" - || {
         echo "other output of $program"
         exit 1
     }
 done
 (cd rust && cargo run --offline --release -q --example compare) || exit 1
-for error in backwards one-ring never; do
+for error in backwards one-ring never last-chosen forgets-need negative-as-0; do
     if (cd rust && cargo run --offline --release -q --example compare -- --plant "$error") >"$build/planted"; then
         echo "a planted error, $error, was not seen"
         exit 1
