@@ -18,7 +18,7 @@ use Rattle.paper.specs.Words.{blockLengthOf}
 use Rattle.paper.specs.Outcome.{refused, answer}
 use Rattle.paper.specs.Wanted.{Wanted, wantedOf}
 use Rattle.paper.specs.Sa2.{Sharing, sharing, dutyCount, dutyOf, shareOf, needsAt, raisedUnits, allotments}
-use Rattle.paper.specs.Shares.{common, blocks, shareSchedule, overloaded, tooFull, sharePlan}
+use Rattle.paper.specs.Shares.{common, blocks, shareSchedule, shareLoads, overloaded, tooFull, sharePlan}
 
 -- ---- 004's two conditions
 
@@ -58,6 +58,8 @@ pub data ShareFact : Type 0 where
   aboveAll : (block : ℕ) → ShareFact
   -- at a tick an engine has a duty, or is idle
   sharedTick : (tick : ℕ) → Engine → Held → ShareFact
+  -- the loads over a number of blocks
+  sharedLoads : (blocks count : ℕ) → ShareFact
   -- it meets the condition of 004's theorem 3.3, of 3.4
   meets33 : ShareFact
   meets34 : ShareFact
@@ -89,6 +91,7 @@ SaysShares c (allotted b ns) = allotments (sharingIn c) b ≡ ns
 SaysShares c (belowZero b i) = raisedUnits (sharingIn c) (needsAt (sharingIn c) b) i ≡ 0
 SaysShares c (aboveAll b) = tooFull (sharingIn c) b ≡ true
 SaysShares c (sharedTick k e h) = shareSchedule (sharingIn c) e k ≡ h
+SaysShares c (sharedLoads b n) = shareLoads (sharingIn c) b ≡ n
 SaysShares c meets33 = Condition33 (sharingIn c)
 SaysShares c meets34 = Condition34 (sharingIn c)
 
@@ -134,7 +137,7 @@ p5Shared =
           sharedIn 2 6
           ∷ allotted 0 (1 ∷ 1 ∷ []) ∷ allotted 1 (0 ∷ 1 ∷ []) ∷ allotted 2 (1 ∷ 0 ∷ [])
           ∷ allotted 3 (0 ∷ 1 ∷ []) ∷ allotted 4 (1 ∷ 1 ∷ []) ∷ allotted 5 (0 ∷ 0 ∷ [])
-          ∷ sharedTick 0 (engine 0) (By 0) ∷ sharedTick 1 (engine 0) (By 1) ∷ sharedTick 0 (engine 1) Idle ∷ [];
+          ∷ sharedTick 0 (engine 0) (By 0) ∷ sharedTick 1 (engine 0) (By 1) ∷ sharedTick 0 (engine 1) Idle ∷ sharedLoads 6 6 ∷ [];
     }
 
 -- the smallest set with 23, which also meets the condition of theorem 3.4: duty 1 was given a unit ahead, needs -1/2 in block 2, and no unit is

@@ -13,13 +13,14 @@ use Rattle.laws.proofs.Cases.{not-both}
 use Rattle.laws.proofs.Search.{Clear}
 use Rattle.laws.proofs.Each.{Each, each-at}
 use Rattle.paper.specs.declared.Duty.{Duty}
-use Rattle.paper.specs.Duties.{duty}
+use Rattle.paper.specs.Duties.{duty, same}
 use Rattle.paper.specs.Words.{heldIn, covers, blockLengthOf}
 use Rattle.paper.specs.Sa1.{lay, layOne, rowAfter, unitAfter}
+use Rattle.paper.specs.Schedule.{load, loadsIn}
 use Rattle.paper.specs.Outcome.{refused, answer}
 use Rattle.paper.specs.Wanted.{dutiesOf, badRange, inRange, taken}
 use Rattle.paper.specs.Sa2.{Sharing, free, wants, wantingTo, chosen, raisedUnits, nextNeed, needsAt, allotments, laidOut}
-use Rattle.paper.specs.Shares.{common, blocks, shareSchedule, overloaded, offRange, tooFull, jobUnits, offService, blockFails, failing, sharable, roomy, steady, sharePlan}
+use Rattle.paper.specs.Shares.{common, blocks, shareSchedule, shareLoads, overloaded, offRange, tooFull, jobUnits, offService, blockFails, failing, sharable, roomy, steady, sharePlan}
 use Rattle.paper.specs.ShareCases.{
   ShareCase,
   SaysShares,
@@ -78,8 +79,8 @@ hold-table3 =
     ((given-told .0, refl, refl), (refl, (refl, (refl, (refl, (refl, (refl, (refl, (refl, (refl, (refl, (refl, (refl, (met-33 .0, (refl, (refl, (refl, (refl, (refl, tt)))))))))))))))))))
 
 hold-p5 : HoldsShares p5Shared
-unfolding free wants wantingTo chosen raisedUnits nextNeed needsAt allotments tab sumTo shareSchedule laidOut lay layOne rowAfter unitAfter heldIn covers blocks lcmOf lcm common blockLengthOf gcdOf gcd euclid
-hold-p5 = ((given-told .1, refl, refl), (refl, (refl, (refl, (refl, (refl, (refl, (refl, (refl, (refl, tt))))))))))
+unfolding shareLoads loadsIn load same free wants wantingTo chosen raisedUnits nextNeed needsAt allotments tab sumTo shareSchedule laidOut lay layOne rowAfter unitAfter heldIn covers blocks lcmOf lcm common blockLengthOf gcdOf gcd euclid
+hold-p5 = ((given-told .1, refl, refl), (refl, (refl, (refl, (refl, (refl, (refl, (refl, (refl, (refl, (refl, tt)))))))))))
 
 hold-23 : HoldsShares smallest23 × HoldsShares against33 × HoldsShares fullest23
 unfolding free wants wantingTo chosen raisedUnits nextNeed needsAt allotments tab sumTo tooFull sumOf blockLengthOf gcdOf gcd euclid
