@@ -81,7 +81,9 @@ module _ {s : Sharing} {n i total : ℕ} {rate₀ rest₀ whole₀ part₀ rate 
   begun-paced b l =
       let e : i ≡ dutyCount s = omega (arith, b .within, b .count) in
       record {
-        wholes = turned-all (b .wholes) l ∙ ap (λ (k : ℕ). tab k (wholeOf s (needsAt s 0))) (b .count);
-        parts = turned-all (b .parts) l ∙ ap (λ (k : ℕ). tab k (partOf s (needsAt s 0))) (b .count);
+        needs = record {
+          wholes = turned-all (b .wholes) l ∙ ap (λ (k : ℕ). tab k (wholeOf s (needsAt s 0))) (b .count);
+          parts = turned-all (b .parts) l ∙ ap (λ (k : ℕ). tab k (partOf s (needsAt s 0))) (b .count);
+        };
         sum = b .sum ∙ ap (λ (k : ℕ). sumTo k (wholeOf s (needsAt s 0))) e;
       }

@@ -24,8 +24,12 @@ pub record Rated (s : Sharing) (rate rest : List ℕ) : Type 0 where
   pub rates : rate ≡ tab (dutyCount s) (λ i. shareOf s i / dutyOf s i .period)
   pub rests : rest ≡ tab (dutyCount s) (λ i. shareOf s i % dutyOf s i .period)
 
--- the needs before block b, and the sum of their whole units, all raised by 1
-pub record Paced (s : Sharing) (b : ℕ) (whole part : List ℕ) (total : ℕ) : Type 0 where
+-- the needs before block b, each one's whole units raised by 1
+pub record Needed (s : Sharing) (b : ℕ) (whole part : List ℕ) : Type 0 where
   pub wholes : whole ≡ tab (dutyCount s) (wholeOf s (needsAt s b))
   pub parts : part ≡ tab (dutyCount s) (partOf s (needsAt s b))
+
+-- these, and the sum of their whole units
+pub record Paced (s : Sharing) (b : ℕ) (whole part : List ℕ) (total : ℕ) : Type 0 where
+  pub needs : Needed s b whole part
   pub sum : total ≡ sumTo (dutyCount s) (wholeOf s (needsAt s b))

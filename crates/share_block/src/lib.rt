@@ -3,16 +3,20 @@
 ghost use mathlib.Core.Path.{_≡_};
 ghost use Prim.Native.Nat.{_+_, _*_, _/_, _%_, _≤_, _<_};
 ghost use lib.ListN.{length};
+ghost use Rattle.laws.specs.Search.{any};
 ghost use Rattle.laws.specs.Lists.{over};
 ghost use Rattle.paper.specs.Bytes.{small, mostTicks};
-ghost use Rattle.paper.specs.Sa2.{needsAt, allotments};
+ghost use Rattle.paper.specs.Sa2.{dutyCount, needsAt, free, allotments};
 ghost use Rattle.duty_lists.specs.Sliceable.{Sliceable};
-ghost use Rattle.share_laws.specs.Short.{short};
-ghost use Rattle.share_block.specs.Paced.{sharingBy, Lent, Rated, Paced};
+ghost use Rattle.share_laws.specs.Short.{lacks, short};
+ghost use Rattle.share_laws.specs.Cut.{cutAt};
+ghost use Rattle.share_block.specs.Paced.{sharingBy, Lent, Rated, Needed, Paced};
 use duty_lists::duty_at;
 use paper::Duty;
+use share_turn::one_if;
 use share_turn::room_in_block;
 use share_turn::take_turn;
+use share_turn::wants_more;
 
 // A duty's share of a block: whole units, and the part of a unit in D-ths.
 struct Share {
@@ -61,13 +65,95 @@ pub fn begin(
     total
 }
 
-// How a block came out: the sum of the needs' whole units before the next one, each raised by 1, and whether it came short.
+// Step 2 of a block, the one of number `block` (which only the contract names, with the engines): the cut, before which the duties that want
+// one of the free units are chosen. It ends where so many have wanted one.
+fn find_cut(
+    t: u32,
+    engines: u32,
+    services: &[u32],
+    periods: &[u32],
+    block: u32,
+    whole: &[u32],
+    part: &[u32],
+    left: u32,
+) -> u32
+    requires { ⌜ Sliceable t (now services) (now periods) × Needed (sharingBy t engines (now services) (now periods)) block (now whole) (now part) ⌝ }
+    requires { ⌜ left ≡ free (sharingBy t engines (now services) (now periods)) (needsAt (sharingBy t engines (now services) (now periods)) block) ⌝ }
+    ensures { λ r. ⌜ (r ≡ cutAt (sharingBy t engines (now (services .entry)) (now (periods .entry))) block) × (r ≤ small .mostDuties) ⌝ }
+{
+    let mut wanting = 0;
+    let mut i = 0;
+    while (i < services.len()) & (wanting < left) {
+        wanting += one_if(wants_more(t, whole[i], part[i]));
+        i += 1;
+    }
+    i as u32
+}
+
+// What the turns of a block come to: the sum of the needs' whole units before the next one, each raised by 1, and whether some duty would
+// get -1 units.
+pub struct Turns {
+    pub total: u32,
+    pub lacking: bool,
+}
+
+// The duties' turns in one block, the one of number `block`, by its cut: what each duty gets goes to `units`, and the needs move on.
+pub fn share_by_cut(
+    t: u32,
+    engines: u32,
+    services: &[u32],
+    periods: &[u32],
+    rate: &[u32],
+    rest: &[u32],
+    block: u32,
+    cut: u32,
+    whole: &mut [u32],
+    part: &mut [u32],
+    units: &mut [u32],
+) -> Turns
+    requires { ⌜ Sliceable t (now services) (now periods) × (length (now services) ≤ length (now units)) ⌝ }
+    requires { ⌜ Rated (sharingBy t engines (now services) (now periods)) (now rate) (now rest) ⌝ }
+    requires { ⌜ Needed (sharingBy t engines (now services) (now periods)) block (now whole) (now part) ⌝ }
+    requires { ⌜ cut ≡ cutAt (sharingBy t engines (now services) (now periods)) block ⌝ }
+    ensures { λ r. ⌜ Paced (sharingBy t engines (now (services .entry)) (now (periods .entry))) (block + 1) (now (whole .exit)) (now (part .exit)) (r .total) ⌝ }
+    ensures { λ r. ⌜ r .lacking ≡ any (lacks (sharingBy t engines (now (services .entry)) (now (periods .entry))) (needsAt (sharingBy t engines (now (services .entry)) (now (periods .entry))) block)) (dutyCount (sharingBy t engines (now (services .entry)) (now (periods .entry)))) ⌝ }
+    ensures { λ r. ⌜ now (units .exit) ≡ over (allotments (sharingBy t engines (now (services .entry)) (now (periods .entry))) block) (now (units .entry)) ⌝ }
+{
+    let mut next = 0;
+    let mut lacking = 0;
+    let mut i = 0;
+    while i < services.len() {
+        let turn = take_turn(
+            t,
+            periods[i],
+            rate[i],
+            rest[i],
+            whole[i],
+            part[i],
+            i as u32,
+            cut,
+        );
+        units[i] = turn.units;
+        whole[i] = turn.whole;
+        part[i] = turn.part;
+        next += turn.whole;
+        lacking += turn.lacking;
+        i += 1;
+    }
+    Turns {
+        total: next,
+        lacking: 0 < lacking,
+    }
+}
+
+// How a block came out: the sum of the needs' whole units before the next one, each raised by 1, whether it came short, and its cut.
 pub struct Shared {
     pub total: u32,
     pub short: bool,
+    pub cut: u32,
 }
 
-// One block, the one of number `block` (which only the contract names): what each duty gets goes to `units`, and the needs move on.
+// One block, the one of number `block`: its free units, its cut, and the duties' turns.
 pub fn share_block(
     t: u32,
     engines: u32,
@@ -87,34 +173,26 @@ pub fn share_block(
     ensures { λ r. ⌜ Paced (sharingBy t engines (now (services .entry)) (now (periods .entry))) (block + 1) (now (whole .exit)) (now (part .exit)) (r .total) ⌝ }
     ensures { λ r. ⌜ r .short ≡ short (sharingBy t engines (now (services .entry)) (now (periods .entry))) (needsAt (sharingBy t engines (now (services .entry)) (now (periods .entry))) block) ⌝ }
     ensures { λ r. ⌜ now (units .exit) ≡ over (allotments (sharingBy t engines (now (services .entry)) (now (periods .entry))) block) (now (units .entry)) ⌝ }
+    ensures { λ r. ⌜ (r .cut ≡ cutAt (sharingBy t engines (now (services .entry)) (now (periods .entry))) block) × (r .cut ≤ small .mostDuties) ⌝ }
 {
     let room = room_in_block(t, engines, services.len() as u32, total);
-    let free = room.free;
-    let mut wanting = 0;
-    let mut next = 0;
-    let mut lacking = false;
-    let mut i = 0;
-    while i < services.len() {
-        let turn = take_turn(
-            t,
-            periods[i],
-            rate[i],
-            rest[i],
-            whole[i],
-            part[i],
-            wanting,
-            free,
-        );
-        units[i] = turn.units;
-        whole[i] = turn.whole;
-        part[i] = turn.part;
-        wanting += turn.wanted;
-        next += turn.whole;
-        lacking = lacking | turn.lacking;
-        i += 1;
-    }
+    let cut = find_cut(t, engines, services, periods, block, whole, part, room.free);
+    let turns = share_by_cut(
+        t,
+        engines,
+        services,
+        periods,
+        rate,
+        rest,
+        block,
+        cut,
+        whole,
+        part,
+        units,
+    );
     Shared {
-        total: next,
-        short: lacking | room.overfull,
+        total: turns.total,
+        short: turns.lacking | room.overfull,
+        cut,
     }
 }

@@ -3,6 +3,8 @@
 pub mod Steps
 -- which of the causes of 23 come up, and that the first block that fails is the first that comes short
 pub mod ShortWhen
+-- the chosen duties by a cut
+pub mod CutFinds
 -- a block on the line of SA1, and the schedule read off it
 pub mod OnLine
 -- the common multiple and its blocks

@@ -20,7 +20,8 @@ use Rattle.paper.specs.Schedule.{load, loadsIn}
 use Rattle.paper.specs.Outcome.{refused, answer}
 use Rattle.paper.specs.Wanted.{dutiesOf, badRange, inRange, taken}
 use Rattle.paper.specs.Sa2.{Sharing, free, wants, wantingTo, chosen, raisedUnits, nextNeed, needsAt, allotments, laidOut}
-use Rattle.paper.specs.Shares.{common, blocks, shareSchedule, shareLoads, overloaded, offRange, tooFull, jobUnits, offService, blockFails, failing, sharable, roomy, steady, sharePlan}
+use Rattle.paper.specs.Shares.{common, blocks, shareSchedule, shareLoads, overloaded, offRange, tooFull, jobUnits, offService, blockFails}
+use Rattle.paper.specs.Shares.{failing, sharable, roomy, steady, sharePlan}
 use Rattle.paper.specs.ShareCases.{
   ShareCase,
   SaysShares,
@@ -63,7 +64,11 @@ Low t x = (t * x .service ≤ (t - 1) * x .period) ⊎ (x .service ≡ x .period
 met-33 : Condition33 (sharingIn table3) × Condition33 (sharingIn against33)
 unfolding overloaded blockLengthOf gcdOf gcd euclid lcmOf lcm common sumTo
 met-33 = (
-  (refl, each-at (Low 10) (duty 0 0) (table3 .duties) (inl (omega arith), (inl (omega arith), (inl (omega arith), (inl (omega arith), (inl (omega arith), (inl (omega arith), tt))))))),
+  (
+    refl,
+    each-at (Low 10) (duty 0 0) (table3 .duties)
+        (inl (omega arith), (inl (omega arith), (inl (omega arith), (inl (omega arith), (inl (omega arith), (inl (omega arith), tt)))))),
+  ),
   (refl, each-at (Low 3) (duty 0 0) (against33 .duties) (inl (omega arith), (inl (omega arith), (inl (omega arith), tt)))),
 )
 
@@ -75,8 +80,46 @@ met-34 = ((refl, omega arith), (refl, omega arith))
 
 hold-table3 : HoldsShares table3
 unfolding free wants wantingTo chosen raisedUnits nextNeed needsAt allotments tab sumTo shareSchedule laidOut lay layOne rowAfter unitAfter heldIn covers blocks lcmOf lcm common blockLengthOf gcdOf gcd euclid
-hold-table3 =
-    ((given-told .0, refl, refl), (refl, (refl, (refl, (refl, (refl, (refl, (refl, (refl, (refl, (refl, (refl, (refl, (met-33 .0, (refl, (refl, (refl, (refl, (refl, tt)))))))))))))))))))
+hold-table3 = (
+  (given-told .0, refl, refl),
+  (
+    refl,
+    (
+      refl,
+      (
+        refl,
+        (
+          refl,
+          (
+            refl,
+            (
+              refl,
+              (
+                refl,
+                (
+                  refl,
+                  (
+                    refl,
+                    (
+                      refl,
+                      (
+                        refl,
+                        (
+                          refl,
+                          (met-33 .0, (refl, (refl, (refl, (refl, (refl, tt)))))),
+                        ),
+                      ),
+                    ),
+                  ),
+                ),
+              ),
+            ),
+          ),
+        ),
+      ),
+    ),
+  ),
+)
 
 hold-p5 : HoldsShares p5Shared
 unfolding shareLoads loadsIn load same free wants wantingTo chosen raisedUnits nextNeed needsAt allotments tab sumTo shareSchedule laidOut lay layOne rowAfter unitAfter heldIn covers blocks lcmOf lcm common blockLengthOf gcdOf gcd euclid
@@ -91,7 +134,22 @@ hold-23 = (
 )
 
 share-cases-each : Each HoldsShares shareCases
-share-cases-each = (hold-table3, (hold-p5, (hold-23 .0, (hold-23 .1, (hold-23 .2, ((refused-told .3, tt), ((refused-told .4, tt), ((refused-told .5, tt), tt))))))))
+share-cases-each = (
+  hold-table3,
+  (
+    hold-p5,
+    (
+      hold-23 .0,
+      (
+        hold-23 .1,
+        (
+          hold-23 .2,
+          ((refused-told .3, tt), ((refused-told .4, tt), ((refused-told .5, tt), tt))),
+        ),
+      ),
+    ),
+  ),
+)
 
 -- what is stated of the sets holds
 pub share-cases-hold : (i : ℕ) → i < length shareCases → HoldsShares (shareCaseAt i)

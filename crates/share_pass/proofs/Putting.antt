@@ -9,7 +9,7 @@ use Rattle.laws.specs.Lists.{tab, flat, over}
 use Rattle.laws.proofs.Lists.{length-tab, getD-tab, length-flat}
 use Rattle.laws.proofs.Listing.{Listing, listing-start, listing-room, listing-more, listing-end}
 use Rattle.paper.specs.Sa2.{Sharing, dutyCount, allotments}
-use Rattle.share_block.specs.Paced.{Paced}
+use Rattle.share_block.specs.Paced.{Needed}
 use Rattle.share_laws.proofs.OnLine.{allotments-length}
 
 -- the numbers of the blocks
@@ -17,23 +17,23 @@ abbrev pub numbers : ℕ → List ℕ
 numbers n = tab n (λ b. b)
 
 -- b of the blocks are written over the front of `before`, up to the place `at`
-pub record Putting (s : Sharing) (blocks : ℕ) (before : List ℕ) (b at total : ℕ) (whole part list : List ℕ) : Type 0 where
+pub record Putting (s : Sharing) (blocks : ℕ) (before : List ℕ) (b at : ℕ) (whole part list : List ℕ) : Type 0 where
   pub most : b ≤ blocks
-  pub paced : Paced s b whole part total
+  pub needed : Needed s b whole part
   pub listing : Listing (allotments s) (numbers blocks) before list at b
 
 pub putting-none :
-    (s : Sharing) (blocks total : ℕ) (whole part list : List ℕ) → Paced s 0 whole part total → Putting s blocks list 0 0 total whole part list
-putting-none s blocks total whole part list p =
-    record { most = omega arith; paced = p; listing = listing-start (allotments s) (numbers blocks) list }
+    (s : Sharing) (blocks : ℕ) (whole part list : List ℕ) → Needed s 0 whole part → Putting s blocks list 0 0 whole part list
+putting-none s blocks whole part list p =
+    record { most = omega arith; needed = p; listing = listing-start (allotments s) (numbers blocks) list }
 
 -- the next block is its number's
 next-is : (s : Sharing) (blocks b : ℕ) → b < blocks → allotments s b ≡ allotments s (getD (numbers blocks) b 0)
 next-is s blocks b h = ap (allotments s) (sym (getD-tab blocks (λ k. k) 0 b h))
 
-module _ {s : Sharing} {blocks b at total : ℕ} {before whole part list : List ℕ} where
+module _ {s : Sharing} {blocks b at : ℕ} {before whole part list : List ℕ} where
   pub putting-room :
-      (n : ℕ) → Putting s blocks before b at total whole part list → b < blocks → n ≡ dutyCount s → blocks * n ≤ length before
+      (n : ℕ) → Putting s blocks before b at whole part list → b < blocks → n ≡ dutyCount s → blocks * n ≤ length before
       → at + n ≤ length list
   putting-room n p h e r =
       let h′ : b < length (numbers blocks) = rw (length-tab blocks (λ k. k)) h in
@@ -42,18 +42,18 @@ module _ {s : Sharing} {blocks b at total : ℕ} {before whole part list : List 
       omega (arith, listing-room 0 (allotments s b) (next-is s blocks b h) (p .listing) h′, allotments-length s b, all, p .listing .long)
 
   pub putting-more :
-      (n total′ : ℕ) (whole′ part′ ys : List ℕ) → Putting s blocks before b at total whole part list → b < blocks → n ≡ dutyCount s
-      → Paced s (b + 1) whole′ part′ total′ → ys ≡ over (allotments s b) (take (length list - at) (drop at list))
+      (n : ℕ) (whole′ part′ ys : List ℕ) → Putting s blocks before b at whole part list → b < blocks → n ≡ dutyCount s
+      → Needed s (b + 1) whole′ part′ → ys ≡ over (allotments s b) (take (length list - at) (drop at list))
       → length (take at list ++ (ys ++ drop (length list - at) (drop at list))) ≡ length before
-      → Putting s blocks before (b + 1) (at + n) total′ whole′ part′ (take at list ++ (ys ++ drop (length list - at) (drop at list)))
-  putting-more n total′ whole′ part′ ys p h e q w g =
+      → Putting s blocks before (b + 1) (at + n) whole′ part′ (take at list ++ (ys ++ drop (length list - at) (drop at list)))
+  putting-more n whole′ part′ ys p h e q w g =
       let h′ : b < length (numbers blocks) = rw (length-tab blocks (λ k. k)) h in
       record {
         most = omega arith;
-        paced = q;
+        needed = q;
         listing = listing-more 0 (allotments s b) ys n (next-is s blocks b h) (p .listing) h′ (e ∙ sym (allotments-length s b)) w g;
       }
 
   pub putting-end :
-      Putting s blocks before b at total whole part list → blocks ≤ b → list ≡ over (flat (allotments s) (numbers blocks)) before
+      Putting s blocks before b at whole part list → blocks ≤ b → list ≡ over (flat (allotments s) (numbers blocks)) before
   putting-end p h = listing-end (p .listing) (rw (length-tab blocks (λ k. k)) h) .1

@@ -3,9 +3,11 @@ use Prim.Native.Nat.{ℕ, _+_, _≤_, _<_}
 use mathlib.Core.Path.{_≡_}
 use mathlib.Core.Bool.{Bool, true, false}
 use mathlib.Core.List.{List}
+use lib.ListN.{getD}
 use Rattle.laws.specs.Lists.{over}
 use Rattle.paper.specs.Sa2.{Sharing, needsAt, allotments}
 use Rattle.share_laws.specs.Short.{short}
+use Rattle.share_laws.specs.Cut.{HasCuts}
 use Rattle.share_block.specs.Paced.{Paced}
 
 -- block b comes short
@@ -21,3 +23,8 @@ pub record Passed (s : Sharing) (from to : ℕ) (before : List ℕ) (block total
   pub stopped : block < to → shortAt s block ≡ true
   pub paced : block ≡ to → Paced s to whole part total
   pub last : block ≡ to → (b : ℕ) → b + 1 ≡ to → from ≤ b → units ≡ over (allotments s b) before
+
+-- the cuts of these blocks are kept in the list that was `before`, and what it had for the blocks before them
+pub record CutsKept (s : Sharing) (from block : ℕ) (before after : List ℕ) : Type 0 where
+  pub has : HasCuts s from block after
+  pub earlier : (b : ℕ) → b < from → getD after b 0 ≡ getD before b 0

@@ -20,7 +20,6 @@ use Rattle.paper.specs.declared.SharesTold.{SharesTold}
 use Rattle.paper.specs.declared.SharesTold.the-variants.{Given, Refused as NotGiven}
 use Rattle.paper.specs.Outcome.{Outcome, refused, answer, refusedAs}
 use Rattle.paper.specs.Bytes.{small}
-use Rattle.paper.specs.Wanted.{dutiesOf}
 use Rattle.paper.specs.Sa2.{Sharing, dutyCount, allotments}
 use Rattle.paper.specs.Shares.{mostShareBlocks, blocks, failing, entriesNeeded, roomy, steady, shareList, readingOfShares, GivesShares}
 use Rattle.plan_laws.proofs.Line.{onLine}
@@ -29,6 +28,7 @@ use Rattle.duty_lists.proofs.Duties.{duty-is}
 use Rattle.share_laws.proofs.Steps.{InBlocks}
 use Rattle.share_laws.proofs.ShortWhen.{failing-short}
 use Rattle.share_laws.proofs.OnLine.{allotments-length, schedule-on-line}
+use Rattle.share_laws.specs.Cut.{HasCuts}
 use Rattle.share_block.specs.Paced.{sharingBy}
 use Rattle.share_pass.specs.Passing.{shortAt}
 use Rattle.share_survey.specs.Looking.{Looked}
@@ -95,7 +95,15 @@ module _ {t m : ℕ} {ss ps : List ℕ} {n : ℕ} (k : KnownBlocks t m ss ps n) 
     unfolding steady
     good-steady l = rw (failing-is b found, le-ltb b (blocks s) (omega (arith, k .blocks-are)))
 
+  -- where it finds none, it has come to the end
+  looked-end : {keep b : ℕ} {before after cuts : List ℕ} → Looked s n keep before b after cuts → n ≤ b → b ≡ n
+  looked-end l h = omega (arith, l .found, first-le (shortAt s) n)
+
   -- ---- the list
+
+  -- and has all cuts
+  pub all-cuts : {keep b : ℕ} {before after cuts : List ℕ} → Looked s n keep before b after cuts → n ≤ b → HasCuts s 0 n cuts
+  all-cuts l h = l .cut (looked-end l h)
 
   module _ (room : ℕ) where
     pub list-short : room < n * length ss → listFrom room s ≡ refused 8 (n * length ss)
@@ -110,10 +118,10 @@ module _ {t m : ℕ} {ss ps : List ℕ} {n : ℕ} (k : KnownBlocks t m ss ps n) 
 
   -- where all blocks are good, the units of the one that was kept are in front
   pub kept-units :
-      {keep b : ℕ} {before after : List ℕ} → Looked s n keep before b after → n ≤ b → take (length ss) after ≡ allotments s keep
+      {keep b : ℕ} {before after cuts : List ℕ} → Looked s n keep before b after cuts → n ≤ b → take (length ss) after ≡ allotments s keep
   unfolding over
   kept-units {keep} {b} {before} {after} l h =
-      let end : b ≡ n = omega (arith, l .found, first-le (shortAt s) n) in
+      let end = looked-end l h in
       rw (l .kept end) (take-at (allotments s keep) (drop (length (allotments s keep)) before) (length ss) (allotments-length s keep ∙ count-is))
 
   module _ (e : Engine) (tick : ℕ) where

@@ -22,7 +22,8 @@ use share_survey::survey;
 use share_survey::write_list;
 use slices::gcd_of_all;
 
-// The builder of shares from refusal 8 on: the blocks are known. All of them are looked through before one entry is written.
+// The builder of shares from refusal 8 on: the blocks are known. All of them are looked through before one entry is written, and the cuts that
+// were found on the way are what the writing goes by.
 fn list_from(
     t: u32,
     engines: u32,
@@ -42,14 +43,24 @@ fn list_from(
         });
     }
     let mut spare = [0u32; 64];
-    let short = survey(t, engines, services, periods, blocks, 0, &mut spare);
-    if short < blocks {
+    let mut cuts = [0u8; 4096];
+    let failing = survey(
+        t,
+        engines,
+        services,
+        periods,
+        blocks,
+        0,
+        &mut spare,
+        &mut cuts,
+    );
+    if failing < blocks {
         return SharesTold::Refused(Refusal {
             number: 23,
-            place: short as usize,
+            place: failing as usize,
         });
     }
-    write_list(t, engines, services, periods, blocks, list);
+    write_list(t, engines, services, periods, blocks, &cuts, list);
     SharesTold::Given(ShareReading {
         entries: needed,
         block_length: t,
@@ -99,7 +110,17 @@ fn held_from(
 {
     let block = (tick / t as u64 % blocks as u64) as u32;
     let mut units = [0u32; 64];
-    let short = survey(t, engines, services, periods, blocks, block, &mut units);
+    let mut cuts = [0u8; 4096];
+    let short = survey(
+        t,
+        engines,
+        services,
+        periods,
+        blocks,
+        block,
+        &mut units,
+        &mut cuts,
+    );
     if short < blocks {
         return ShareAnswer::Refused(Refusal {
             number: 23,

@@ -1,5 +1,5 @@
-// A plan of shares looked through before anything is written, and then written. The four lists of shares and needs stand here, one entry for
-// each duty.
+// A plan of shares looked through before anything is written, and then written by the cuts that were found. The four lists of shares and needs
+// stand here, one entry for each duty.
 ghost use mathlib.Core.Path.{_≡_};
 ghost use Prim.Native.Nat.{_*_, _≤_, _<_};
 ghost use lib.ListN.{length};
@@ -7,6 +7,7 @@ ghost use Rattle.laws.specs.Lists.{over, tab, flat};
 ghost use Rattle.paper.specs.Bytes.{small};
 ghost use Rattle.paper.specs.Sa2.{allotments};
 ghost use Rattle.duty_lists.specs.Sliceable.{Sliceable};
+ghost use Rattle.share_laws.specs.Cut.{HasCuts};
 ghost use Rattle.share_block.specs.Paced.{sharingBy, Lent, Rated, Paced};
 ghost use Rattle.share_survey.specs.Looking.{Looked};
 use share_block::begin;
@@ -14,7 +15,7 @@ use share_pass::pass_blocks;
 use share_pass::put_blocks;
 
 // The blocks looked at in one pass, from the needs before the first: the first that comes short, or how many there are. What block `keep`
-// gives stays in `units`.
+// gives stays in `units`, and the blocks' cuts in `cuts`.
 fn look_on(
     t: u32,
     engines: u32,
@@ -29,12 +30,13 @@ fn look_on(
     total: u32,
     units: &mut [u32],
     spare: &mut [u32],
+    cuts: &mut [u8],
 ) -> u32
-    requires { ⌜ Sliceable t (now services) (now periods) × (engines ≤ small .mostEngines) × (keep < blocks) ⌝ }
+    requires { ⌜ Sliceable t (now services) (now periods) × (engines ≤ small .mostEngines) × (keep < blocks) × (blocks ≤ length (now cuts)) ⌝ }
     requires { ⌜ (length (now services) ≤ length (now units)) × (length (now services) ≤ length (now spare)) ⌝ }
     requires { ⌜ Rated (sharingBy t engines (now services) (now periods)) (now rate) (now rest) ⌝ }
     requires { ⌜ Paced (sharingBy t engines (now services) (now periods)) 0 (now whole) (now part) total ⌝ }
-    ensures { λ r. ⌜ Looked (sharingBy t engines (now (services .entry)) (now (periods .entry))) blocks keep (now (units .entry)) r (now (units .exit)) ⌝ }
+    ensures { λ r. ⌜ Looked (sharingBy t engines (now (services .entry)) (now (periods .entry))) blocks keep (now (units .entry)) r (now (units .exit)) (now (cuts .exit)) ⌝ }
 {
     let kept = pass_blocks(
         t,
@@ -49,6 +51,7 @@ fn look_on(
         part,
         total,
         units,
+        cuts,
     );
     if kept.block <= keep {
         return kept.block;
@@ -66,6 +69,7 @@ fn look_on(
         part,
         kept.total,
         spare,
+        cuts,
     );
     end.block
 }
@@ -84,11 +88,12 @@ fn look_through(
     part: &mut [u32],
     units: &mut [u32],
     spare: &mut [u32],
+    cuts: &mut [u8],
 ) -> u32
-    requires { ⌜ Sliceable t (now services) (now periods) × (engines ≤ small .mostEngines) × (keep < blocks) ⌝ }
+    requires { ⌜ Sliceable t (now services) (now periods) × (engines ≤ small .mostEngines) × (keep < blocks) × (blocks ≤ length (now cuts)) ⌝ }
     requires { ⌜ Lent (now services) (now rate) (now rest) (now whole) (now part) ⌝ }
     requires { ⌜ (length (now services) ≤ length (now units)) × (length (now services) ≤ length (now spare)) ⌝ }
-    ensures { λ r. ⌜ Looked (sharingBy t engines (now (services .entry)) (now (periods .entry))) blocks keep (now (units .entry)) r (now (units .exit)) ⌝ }
+    ensures { λ r. ⌜ Looked (sharingBy t engines (now (services .entry)) (now (periods .entry))) blocks keep (now (units .entry)) r (now (units .exit)) (now (cuts .exit)) ⌝ }
 {
     let total = begin(t, engines, services, periods, rate, rest, whole, part);
     look_on(
@@ -105,6 +110,7 @@ fn look_through(
         total,
         units,
         spare,
+        cuts,
     )
 }
 
@@ -117,9 +123,10 @@ pub fn survey(
     blocks: u32,
     keep: u32,
     units: &mut [u32],
+    cuts: &mut [u8],
 ) -> u32
-    requires { ⌜ Sliceable t (now services) (now periods) × (engines ≤ small .mostEngines) × (keep < blocks) × (length (now services) ≤ length (now units)) ⌝ }
-    ensures { λ r. ⌜ Looked (sharingBy t engines (now (services .entry)) (now (periods .entry))) blocks keep (now (units .entry)) r (now (units .exit)) ⌝ }
+    requires { ⌜ Sliceable t (now services) (now periods) × (engines ≤ small .mostEngines) × (keep < blocks) × (length (now services) ≤ length (now units)) × (blocks ≤ length (now cuts)) ⌝ }
+    ensures { λ r. ⌜ Looked (sharingBy t engines (now (services .entry)) (now (periods .entry))) blocks keep (now (units .entry)) r (now (units .exit)) (now (cuts .exit)) ⌝ }
 {
     let n = services.len();
     let mut rate = [0u32; 64];
@@ -140,27 +147,30 @@ pub fn survey(
         &mut part[..n],
         units,
         &mut spare,
+        cuts,
     )
 }
 
-// All blocks' allotments written, block by block.
+// All blocks' allotments written, block by block, by the cuts that were found.
 fn write_through(
     t: u32,
     engines: u32,
     services: &[u32],
     periods: &[u32],
     blocks: u32,
+    cuts: &[u8],
     rate: &mut [u32],
     rest: &mut [u32],
     whole: &mut [u32],
     part: &mut [u32],
     list: &mut [u32],
 )
-    requires { ⌜ Sliceable t (now services) (now periods) × (engines ≤ small .mostEngines) × (blocks * length (now services) ≤ length (now list)) ⌝ }
+    requires { ⌜ Sliceable t (now services) (now periods) × (blocks ≤ length (now cuts)) × (blocks * length (now services) ≤ length (now list)) ⌝ }
     requires { ⌜ Lent (now services) (now rate) (now rest) (now whole) (now part) ⌝ }
+    requires { ⌜ HasCuts (sharingBy t engines (now services) (now periods)) 0 blocks (now cuts) ⌝ }
     ensures { λ r. ⌜ now (list .exit) ≡ over (flat (allotments (sharingBy t engines (now (services .entry)) (now (periods .entry)))) (tab blocks (λ b. b))) (now (list .entry)) ⌝ }
 {
-    let total = begin(t, engines, services, periods, rate, rest, whole, part);
+    begin(t, engines, services, periods, rate, rest, whole, part);
     put_blocks(
         t,
         engines,
@@ -169,9 +179,9 @@ fn write_through(
         rate,
         rest,
         blocks,
+        cuts,
         whole,
         part,
-        total,
         list,
     );
 }
@@ -183,9 +193,11 @@ pub fn write_list(
     services: &[u32],
     periods: &[u32],
     blocks: u32,
+    cuts: &[u8],
     list: &mut [u32],
 )
-    requires { ⌜ Sliceable t (now services) (now periods) × (engines ≤ small .mostEngines) × (blocks * length (now services) ≤ length (now list)) ⌝ }
+    requires { ⌜ Sliceable t (now services) (now periods) × (blocks ≤ length (now cuts)) × (blocks * length (now services) ≤ length (now list)) ⌝ }
+    requires { ⌜ HasCuts (sharingBy t engines (now services) (now periods)) 0 blocks (now cuts) ⌝ }
     ensures { λ r. ⌜ now (list .exit) ≡ over (flat (allotments (sharingBy t engines (now (services .entry)) (now (periods .entry)))) (tab blocks (λ b. b))) (now (list .entry)) ⌝ }
 {
     let n = services.len();
@@ -199,6 +211,7 @@ pub fn write_list(
         services,
         periods,
         blocks,
+        cuts,
         &mut rate[..n],
         &mut rest[..n],
         &mut whole[..n],

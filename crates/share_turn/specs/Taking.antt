@@ -8,9 +8,9 @@ use Rattle.laws.specs.Choice.{pick}
 abbrev pub wantsBy : (t whole part : ℕ) → Bool
 wantsBy t whole part = ltb 0 part && ltb whole (t + 1)
 
--- "the first F tasks from the list", where so many before it want a unit
-abbrev pub chosenBy : (t whole part wanting free : ℕ) → Bool
-chosenBy t whole part wanting free = wantsBy t whole part && ltb wanting free
+-- "the first F tasks from the list": those before the cut
+abbrev pub chosenBy : (t whole part place cut : ℕ) → Bool
+chosenBy t whole part place cut = wantsBy t whole part && ltb place cut
 
 -- step 4, in D-ths, raised by 1
 abbrev pub nextBy : (period rate rest part : ℕ) → Bool → ℕ

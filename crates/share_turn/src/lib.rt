@@ -3,7 +3,7 @@
 // division.
 ghost use mathlib.Core.Path.{_≡_};
 ghost use Prim.Native.Nat.{_+_, _-_, _*_, _/_, _%_, _≤_, _<_};
-ghost use lib.Dec.{ltb, eqb};
+ghost use lib.Dec.{leb, ltb, eqb};
 ghost use Rattle.laws.specs.Choice.{one-if};
 ghost use Rattle.paper.specs.Bytes.{small, mostTicks};
 ghost use Rattle.share_turn.specs.Taking.{wantsBy, chosenBy, nextBy};
@@ -33,32 +33,41 @@ pub fn room_in_block(t: u32, engines: u32, duties: u32, total: u32) -> Room
     }
 }
 
-// What a duty's turn comes to: the units that it gets, its need before the next block, 1 if it wanted one more unit, and whether it would
-// get -1 units.
-pub struct Turn {
-    pub units: u32,
-    pub whole: u32,
-    pub part: u32,
-    pub wanted: u32,
-    pub lacking: bool,
-}
-
 // 1 or 0.
-fn one_if(b: bool) -> u32
+pub fn one_if(b: bool) -> u32
     ensures { λ r. ⌜ (r ≡ one-if b) × (r ≤ 1) ⌝ }
 {
     if b { 1 } else { 0 }
 }
 
-// The part of a unit that parts add up to: without the unit, where they make one.
-fn part_of(period: u32, sum: u32) -> u32
-    requires { ⌜ sum < period + period ⌝ }
-    ensures { λ r. ⌜ r ≡ sum % period ⌝ }
+// Step 2: whether a duty wants one of the free units, by its need.
+pub fn wants_more(t: u32, whole: u32, part: u32) -> bool
+    requires { ⌜ t ≤ mostTicks ⌝ }
+    ensures { λ r. ⌜ r ≡ wantsBy t whole part ⌝ }
 {
-    if sum < period { sum } else { sum - period }
+    (0 < part) & (whole < t + 1)
 }
 
-// A duty's turn, by its share (`rate` and `rest`) and its need (`whole` and `part`), where so many duties before it want one of the free units.
+// The part of a unit that parts add up to: without the unit, where they make one.
+fn part_of(period: u32, sum: u32, full: bool) -> u32
+    requires { ⌜ (sum < period + period) × (full ≡ leb period sum) ⌝ }
+    ensures { λ r. ⌜ r ≡ sum % period ⌝ }
+{
+    if full { sum - period } else { sum }
+}
+
+// What a duty's turn comes to: the units that it gets, its need before the next block, and 1 if it would get -1 units (a number, so that all
+// that a loop adds up has the same width).
+pub struct Turn {
+    pub units: u32,
+    pub whole: u32,
+    pub part: u32,
+    pub lacking: u32,
+}
+
+// A duty's turn, by its share (`rate` and `rest`) and its need (`whole` and `part`). It is chosen where it wants a unit and its place among
+// the duties is before the cut. There is no branch and nothing is handed on from duty to duty, so that a loop over the duties takes several
+// at a time.
 pub fn take_turn(
     t: u32,
     period: u32,
@@ -66,31 +75,30 @@ pub fn take_turn(
     rest: u32,
     whole: u32,
     part: u32,
-    wanting: u32,
-    free: u32,
+    place: u32,
+    cut: u32,
 ) -> Turn
     requires { ⌜ (t ≤ mostTicks) × (period ≤ mostTicks) × (rate ≤ t) × (rest < period) × (whole ≤ t + 1) × (part < period) ⌝ }
-    ensures { λ r. ⌜ r .units ≡ whole + one-if (chosenBy t whole part wanting free) - 1 ⌝ }
-    ensures { λ r. ⌜ (r .whole ≡ nextBy period rate rest part (chosenBy t whole part wanting free) / period) × (r .whole ≤ t + 2) ⌝ }
-    ensures { λ r. ⌜ r .part ≡ nextBy period rate rest part (chosenBy t whole part wanting free) % period ⌝ }
-    ensures { λ r. ⌜ (r .wanted ≡ one-if (wantsBy t whole part)) × (r .wanted ≤ 1) ⌝ }
-    ensures { λ r. ⌜ r .lacking ≡ eqb (whole + one-if (chosenBy t whole part wanting free)) 0 ⌝ }
+    ensures { λ r. ⌜ r .units ≡ whole + one-if (chosenBy t whole part place cut) - 1 ⌝ }
+    ensures { λ r. ⌜ (r .whole ≡ nextBy period rate rest part (chosenBy t whole part place cut) / period) × (r .whole ≤ t + 2) ⌝ }
+    ensures { λ r. ⌜ r .part ≡ nextBy period rate rest part (chosenBy t whole part place cut) % period ⌝ }
+    ensures { λ r. ⌜ (r .lacking ≡ one-if (eqb (whole + one-if (chosenBy t whole part place cut)) 0)) × (r .lacking ≤ 1) ⌝ }
 {
-    let wants = (0 < part) & (whole < t + 1);
-    let took = one_if(wants & (wanting < free));
+    let wants = wants_more(t, whole, part);
+    let took = one_if(wants & (place < cut));
     let raised = whole + took;
     let got = one_if(0 < raised);
-    let sum = rest + part;
-    let carry = one_if(period <= sum);
-    let next = rate + carry + 1 - took;
-    let left = part_of(period, sum);
-    let wanted = one_if(wants);
     let units = raised - got;
+    let sum = rest + part;
+    let full = period <= sum;
+    let carry = one_if(full);
+    let next = rate + carry + 1 - took;
+    let left = part_of(period, sum, full);
+    let lacking = one_if(raised == 0);
     Turn {
         units,
         whole: next,
         part: left,
-        wanted,
-        lacking: raised == 0,
+        lacking,
     }
 }

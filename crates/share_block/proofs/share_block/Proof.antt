@@ -1,210 +1,61 @@
--- `share_block`: each turn is a turn of SA2 (`took`), since the lists hold the duty's share and need and the count before it is that of those
--- that want a unit. The sums stay small: at most 1 and at most T + 2 for each duty.
+-- `share_block`: the free units of step 1 give the cut of step 2, the cut the turns.
 -- Assumes nothing.
-use Prim.Native.Nat.{ℕ, _+_, _*_, _-_, _<_}
-use mathlib.Core.Path.{_≡_, sym, ap, _∙_}
-use native.Mathlib.Nat.{lt-of-lt-of-le}
-use native.Mathlib.Omega.{arith}
+use Prim.Native.Nat.{ℕ, _+_, _*_}
+use mathlib.Core.Path.{sym, ap, _∙_}
 use borrow.Author.Needs.{needs}
-use lib.ListN.{length}
 use Rattle.plan_laws.proofs.Planned.{length-duties}
-use Rattle.duty_lists.proofs.Duties.{duty-is}
-use Rattle.share_block.specs.Paced.{sharingBy}
-use Rattle.share_block.proofs.Going.{Going, free-is, turn-taken, going-none, going-more, going-paced, going-short, going-written, ready, long-as}
+use Rattle.share_block.proofs.Going.{free-is, short-is}
 use Rattle.share_block.proofs.share_block.Statement.{statement}
 use Rattle.share_block.proofs.share_block.Tie as tie
 
--- an index below n is one of a list of n entries, and there are fewer after it
-below : {i n m : ℕ} → i < n → m ≡ n → i < m
-below h e = rw e h
-
-fewer : {i n : ℕ} → i < n → n - (i + 1) < n - i
-fewer h = omega arith
-
-abbrev Inv-loop : tie.InvT-loop
-Inv-loop t engines services periods rate rest block whole₀ part₀ total units₀ room free wanting₀ next₀ lacking₀ i₀ whole part units wanting next lacking i =
-    Going (sharingBy t engines services periods) block (length services) units₀ i whole part units wanting next lacking
-    × (length periods ≡ length services) × (length rate ≡ length services) × (length rest ≡ length services)
-    × (length whole₀ ≡ length services) × (length part₀ ≡ length services)
-
-abbrev μ-loop : tie.MeasureT-loop
-μ-loop t engines services periods rate rest block whole₀ part₀ total units₀ room free wanting₀ next₀ lacking₀ i₀ whole part units wanting next lacking i =
-    length services - i
-
--- where the function began: from the first lines, and from inside the loop
-abbrev first : tie.After-slice-known3 Inv-loop μ-loop → tie.Start Inv-loop μ-loop
-first c = c .before .before .before .before .before .before .before
-
-abbrev begun : tie.At-loop Inv-loop μ-loop → tie.Start Inv-loop μ-loop
-begun c = c .before .before .before .before .before .before .before .before .before
-
-cast-room-in-block : tie.Need-cast-room-in-block Inv-loop μ-loop
+cast-room-in-block : tie.Need-cast-room-in-block
 cast-room-in-block c = search needs
 
-room-in-block-requires : tie.Need-room-in-block-requires Inv-loop μ-loop
+room-in-block-requires : tie.Need-room-in-block-requires
 room-in-block-requires c κs =
-    let h = first c .pre .0 in
+    let h = c .before .before .before .before .before .before .before .pre .0 in
     (h .0 .ticks-most, h .1, h .0 .paired .few)
 
-loop-holds : tie.Need-loop-holds Inv-loop μ-loop
-loop-holds c =
-    let s = first (c .before) in
-    let n = sym (length-duties (s .args .services .now) (s .args .periods .now)) in
-    let rated = s .pre .1 .0 in
-    let paced = s .pre .1 .1 in (
-      going-none _ _ _ _ _ _ _ n (s .pre .0 .2) paced,
-      sym (s .pre .0 .0 .paired .same),
-      long-as _ _ _ _ (rated .rates) n,
-      long-as _ _ _ _ (rated .rests) n,
-      long-as _ _ _ _ (paced .wholes) n,
-      long-as _ _ _ _ (paced .parts) n,
-    )
-
-mul-take-turn : tie.Need-mul-take-turn Inv-loop μ-loop
-mul-take-turn c = search needs
-
-shared-slice-read-take-turn : tie.Need-shared-slice-read-take-turn Inv-loop μ-loop
-shared-slice-read-take-turn c = below (c .before .loop-test .taken) (c .before .before .loop .inv .1)
-
-mul-take-turn-2 : tie.Need-mul-take-turn-2 Inv-loop μ-loop
-mul-take-turn-2 c = mul-take-turn (c .before)
-
-shared-slice-read-take-turn-2 : tie.Need-shared-slice-read-take-turn-2 Inv-loop μ-loop
-shared-slice-read-take-turn-2 c = below (c .before .before .loop-test .taken) (c .before .before .before .loop .inv .2)
-
-mul-take-turn-3 : tie.Need-mul-take-turn-3 Inv-loop μ-loop
-mul-take-turn-3 c = mul-take-turn (c .before .before)
-
-shared-slice-read-take-turn-3 : tie.Need-shared-slice-read-take-turn-3 Inv-loop μ-loop
-shared-slice-read-take-turn-3 c = below (c .before .before .before .loop-test .taken) (c .before .before .before .before .loop .inv .3)
-
-mul-take-turn-4 : tie.Need-mul-take-turn-4 Inv-loop μ-loop
-mul-take-turn-4 c = mul-take-turn (c .before .before .before)
-
-slice-read-take-turn : tie.Need-slice-read-take-turn Inv-loop μ-loop
-slice-read-take-turn c = below (c .before .before .before .before .loop-test .taken) (c .before .before .before .before .before .loop .inv .0 .wholes .long)
-
-mul-take-turn-5 : tie.Need-mul-take-turn-5 Inv-loop μ-loop
-mul-take-turn-5 c = mul-take-turn (c .before .before .before .before)
-
-slice-read-take-turn-2 : tie.Need-slice-read-take-turn-2 Inv-loop μ-loop
-slice-read-take-turn-2 c =
-    let going = c .before .before .before .before .before .before .loop .inv .0 in
-    below (c .before .before .before .before .before .loop-test .taken) (going .parts .long)
-
-take-turn-requires : tie.Need-take-turn-requires Inv-loop μ-loop
-take-turn-requires c κs =
-    let s = begun (c .before .before .before .before .before .before) in
-    let loop = c .before .before .before .before .before .before .loop in
-    let l = c .before .before .before .before .before .loop-test .taken in
-    let h = s .pre .0 .0 .ranged (loop .i) l in
-    let d = ap (λ x. x .period) (duty-is (s .args .services .now) (s .args .periods .now) (loop .i) l) in
-    ready _ _ _ (loop .inv .0) l (s .pre .1 .0) h (sym d) (s .pre .0 .0 .ticks-most)
-
-mul-units : tie.Need-mul-units Inv-loop μ-loop
-mul-units c = mul-take-turn (c .before .before .before .before .before .before)
-
-slice-write-units : tie.Need-slice-write-units Inv-loop μ-loop
-slice-write-units c =
-    let going = c .before .before .before .before .before .before .before .loop .inv .0 in
-    below (lt-of-lt-of-le (c .before .before .before .before .before .before .loop-test .taken) (going .room)) (going .given .long)
-
-mul-whole : tie.Need-mul-whole Inv-loop μ-loop
-mul-whole c = mul-units c
-
-slice-write-whole : tie.Need-slice-write-whole Inv-loop μ-loop
-slice-write-whole c = slice-read-take-turn (c .before .before)
-
-mul-part : tie.Need-mul-part Inv-loop μ-loop
-mul-part c = mul-units c
-
-slice-write-part : tie.Need-slice-write-part Inv-loop μ-loop
-slice-write-part c = slice-read-take-turn-2 (c .before)
-
-add-wanting : tie.Need-add-wanting Inv-loop μ-loop
-add-wanting c =
-    let s = begun (c .before .before .before .before .before .before .before .before) in
-    let going = c .before .before .before .before .before .before .before .before .loop .inv .0 in
-    omega (arith, going .few, going .within, c .before .take-turn .ensures .1 .1 .1 .0 .1, s .pre .0 .0 .paired .few)
-
-add-next : tie.Need-add-next Inv-loop μ-loop
-add-next c =
-    let s = begun (c .before .before .before .before .before .before .before .before .before) in
-    let going = c .before .before .before .before .before .before .before .before .before .loop .inv .0 in
-    omega (arith, going .most, going .within, c .before .before .take-turn .ensures .1 .0 .1, s .pre .0 .0 .ticks-most, s .pre .0 .0 .paired .few)
-
-add-i : tie.Need-add-i Inv-loop μ-loop
-add-i c = omega (arith, begun (c .before .before .before .before .before .before .before .before .before .before) .pre .0 .0 .paired .few)
-
-loop-less : tie.Need-loop-less Inv-loop μ-loop
-loop-less c = fewer (c .before .before .before .before .before .before .before .before .before .loop-test .taken)
-
-loop-again : tie.Need-loop-again Inv-loop μ-loop
-loop-again c =
-    let s = begun (c .before .before .before .before .before .before .before .before .before .before) in
-    let loop = c .before .before .before .before .before .before .before .before .before .before .loop in
-    let below = c .before .before .before .before .before .before .before .before .before .loop-test .taken in
-    let ss = s .args .services .now in
-    let ps = s .args .periods .now in
-    let turn = c .before .before .before .take-turn .ensures in
-    let d = ap (λ x. x .period) (duty-is ss ps (loop .i) below) in
-    let have = ap (λ (k : ℕ). s .args .engines * s .args .t + k) (sym (length-duties ss ps)) in
-    let left = c .before .before .before .before .before .before .before .before .before .before .before .room-in-block .ensures .0 in
-    let free = left ∙ free-is _ _ _ _ have (s .pre .1 .1 .sum) in
-    let taken = turn-taken _ _ _ _ _ _ _ _ _ (loop .inv .0) below (s .pre .1 .0) (sym d) free
-    (turn .0) (turn .1 .0 .0) (turn .1 .1 .0) (turn .1 .1 .1 .0 .0) (turn .1 .1 .1 .1) in
-    let more = going-more _ _ _ _ _ (loop .inv .0) below taken (turn .1 .0 .1) (s .pre .0 .0 .ticks-most) (turn .1 .1 .1 .0 .1) in
-    (more, loop .inv .1, loop .inv .2, loop .inv .3, loop .inv .4, loop .inv .5)
-
-same-length : tie.Need-same-length Inv-loop μ-loop
-same-length c = c .before .before .loop .inv .0 .wholes .long ∙ sym (c .before .before .loop .inv .4)
-
-same-length-2 : tie.Need-same-length-2 Inv-loop μ-loop
-same-length-2 c = c .before .before .loop .inv .0 .parts .long ∙ sym (c .before .before .loop .inv .5)
-
-same-length-3 : tie.Need-same-length-3 Inv-loop μ-loop
-same-length-3 c = c .before .before .loop .inv .0 .given .long
-
-returns : tie.Need-returns Inv-loop μ-loop
-returns c =
-    let s = begun (c .before .before) in
-    let going = c .before .before .loop .inv .0 in
-    let past = c .before .loop-test .left in
+find-cut-requires : tie.Need-find-cut-requires
+find-cut-requires c κs =
+    let s = c .before .before .before .before .before .before .before .before .before .before in
     let have = ap (λ (k : ℕ). s .args .engines * s .args .t + k) (sym (length-duties (s .args .services .now) (s .args .periods .now))) in
-    let over = c .before .before .before .room-in-block .ensures .1 in
-    (going-paced going past, (going-short _ _ _ going past over have (s .pre .1 .1 .sum), going-written going past))
+    let left = c .before .before .room-in-block .ensures .0 ∙ free-is _ _ _ _ have (s .pre .1 .1 .sum) in
+    ((s .pre .0 .0, s .pre .1 .1 .needs), left)
+
+share-by-cut-requires : tie.Need-share-by-cut-requires
+share-by-cut-requires c κs =
+    let s = c .before .before .before .before .before .before .before .before .before .before .before .before .before .before in
+    ((s .pre .0 .0, s .pre .0 .2), (s .pre .1 .0, (s .pre .1 .1 .needs, c .before .before .before .find-cut .ensures .0)))
+
+same-length : tie.Need-same-length
+same-length c = search needs
+
+same-length-2 : tie.Need-same-length-2
+same-length-2 c = search needs
+
+same-length-3 : tie.Need-same-length-3
+same-length-3 c = search needs
+
+returns : tie.Need-returns
+returns c =
+    let at-share-by-cut = c .before .before .before .before .before .before .before .before in
+    let at-find-cut = at-share-by-cut .before .before .before .before in
+    let at-room-in-block = at-find-cut .before .before .before in
+    let s = at-room-in-block .before .before .before .before .before .before .before .before in
+    let turns = at-share-by-cut .share-by-cut .ensures in
+    let have = ap (λ (k : ℕ). s .args .engines * s .args .t + k) (sym (length-duties (s .args .services .now) (s .args .periods .now))) in
+    let short = short-is _ _ _ _ _ _ (turns .1 .0) (at-room-in-block .room-in-block .ensures .1) have (s .pre .1 .1 .sum) in
+    (turns .0, (short, (turns .1 .1, at-find-cut .find-cut .ensures)))
 
 pub share-block-spec : {M : Type 1} → statement M
 share-block-spec =
     tie.close
     (tie.spec
-    Inv-loop
-    μ-loop
     cast-room-in-block
     room-in-block-requires
-    loop-holds
-    mul-take-turn
-    shared-slice-read-take-turn
-    mul-take-turn-2
-    shared-slice-read-take-turn-2
-    mul-take-turn-3
-    shared-slice-read-take-turn-3
-    mul-take-turn-4
-    slice-read-take-turn
-    mul-take-turn-5
-    slice-read-take-turn-2
-    take-turn-requires
-    mul-units
-    slice-write-units
-    mul-whole
-    slice-write-whole
-    mul-part
-    slice-write-part
-    add-wanting
-    add-next
-    add-i
-    loop-less
-    loop-again
+    find-cut-requires
+    share-by-cut-requires
     same-length
     same-length-2
     same-length-3

@@ -52,8 +52,8 @@ next c =
 -- so it divides that one, which is not 0
 divides : (c : tie.After-multiple-of Inv-loop μ-loop) → c .multiple-of .result ∣ lcmOf (c .before .before .before .before .before .args .periods .now)
 divides c =
-    rw (next c)
-    at (lcm-left (c .multiple-of .result) (lcmOf (drop (c .before .before .before .loop .i + 1) (c .before .before .before .before .before .args .periods .now))))
+    let left = drop (c .before .before .before .loop .i + 1) (c .before .before .before .before .before .args .periods .now) in
+    rw (next c) at (lcm-left (c .multiple-of .result) (lcmOf left))
 
 within : (c : tie.After-multiple-of Inv-loop μ-loop) → c .multiple-of .result ≤ lcmOf (c .before .before .before .before .before .args .periods .now)
 within c =
@@ -62,7 +62,8 @@ within c =
 
 returns : tie.Need-returns Inv-loop μ-loop
 returns c =
-    rw (lt-ltb (mostShareBlocks * c .before .before .before .before .before .before .args .t) (lcmOf (c .before .before .before .before .before .before .args .periods .now)) (omega (arith, within (c .before), c .if1 .taken)))
+    let s = c .before .before .before .before .before .before in
+    rw (lt-ltb (mostShareBlocks * s .args .t) (lcmOf (s .args .periods .now)) (omega (arith, within (c .before), c .if1 .taken)))
 
 cast-common : tie.Need-cast-common Inv-loop μ-loop
 cast-common c = omega (arith, c .if1 .left, c .before .before .before .before .before .before .pre .1)

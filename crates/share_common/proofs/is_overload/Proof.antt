@@ -67,7 +67,8 @@ returns : tie.Need-returns Inv-loop μ-loop
 returns c =
     let s = c .before .before .before .before in
     let ds = dutiesOf (s .args .services .now) (s .args .periods .now) in
-    let all : c .before .loop .i ≡ length ds = omega (arith, length-duties (s .args .services .now) (s .args .periods .now), c .before .loop .inv .0, c .loop-test .left) in
+    let many = length-duties (s .args .services .now) (s .args .periods .now) in
+    let all : c .before .loop .i ≡ length ds = omega (arith, many, c .before .loop .inv .0, c .loop-test .left) in
     ap (ltb (s .args .engines * s .args .common)) (c .before .loop .inv .1 ∙ ap (λ (n : ℕ). sumTo n (loadAt ds (s .args .common))) all)
 
 pub is-overload-spec : {M : Type 1} → statement M

@@ -11,7 +11,9 @@ use Rattle.share_common.proofs.load_of.Tie as tie
 most : (c d k : ℕ) → c ≤ d → c * (k / d) ≤ k
 most c d k h = omega (arith, mul-le-mul-right (k / d) h, mul-div-le k d)
 
-fits : (c : tie.After-struct-known2) → c .before .before .args .x .service * (c .before .before .args .ticks / c .before .before .args .x .period) ≤ c .before .before .args .ticks
+fits :
+    (c : tie.After-struct-known2) → let s = c .before .before in
+    s .args .x .service * (s .args .ticks / s .args .x .period) ≤ s .args .ticks
 fits c = most _ _ _ (c .before .before .pre .1)
 
 cast-result : tie.Need-cast-result

@@ -1,4 +1,4 @@
--- `pass_blocks`: each block is SA2's next; the first that comes short ends the pass.
+-- `pass_blocks`: each block is SA2's next, and its cut is kept; the first that comes short ends the pass.
 -- Assumes nothing.
 use Prim.Native.Nat.{_-_}
 use mathlib.Core.Path.{_≡_, refl, sym, _∙_}
@@ -6,27 +6,30 @@ use native.Mathlib.Omega.{arith}
 use borrow.Author.Needs.{needs}
 use lib.ListN.{length}
 use Rattle.share_block.specs.Paced.{sharingBy}
+use Rattle.share_pass.specs.Passing.{CutsKept}
 use Rattle.share_pass.proofs.Passing.{Passing, passing-none, passing-more, passing-short, passing-end}
+use Rattle.share_pass.proofs.Keeping.{kept-none, kept-more, kept-to}
 use Rattle.share_pass.proofs.pass_blocks.Statement.{statement}
 use Rattle.share_pass.proofs.pass_blocks.Tie as tie
 
 abbrev Inv-loop : tie.InvT-loop
-Inv-loop t engines services periods rate rest from to whole₀ part₀ total units₀ sum₀ b₀ whole part units sum b =
+Inv-loop t engines services periods rate rest from to whole₀ part₀ total units₀ cuts₀ sum₀ b₀ whole part units cuts sum b =
     Passing (sharingBy t engines services periods) from to units₀ b sum whole part units
-    × (length whole ≡ length whole₀) × (length part ≡ length part₀) × (length units ≡ length units₀)
+    × CutsKept (sharingBy t engines services periods) from b cuts₀ cuts
+    × (length whole ≡ length whole₀) × (length part ≡ length part₀) × (length units ≡ length units₀) × (length cuts ≡ length cuts₀)
 
 abbrev μ-loop : tie.MeasureT-loop
-μ-loop t engines services periods rate rest from to whole₀ part₀ total units₀ sum₀ b₀ whole part units sum b =
+μ-loop t engines services periods rate rest from to whole₀ part₀ total units₀ cuts₀ sum₀ b₀ whole part units cuts sum b =
     to - b
 
 loop-holds : tie.Need-loop-holds Inv-loop μ-loop
 loop-holds c =
-    let s = c .before .before .before .before .before .before .before in
-    (passing-none _ _ _ _ _ _ _ (s .pre .0 .3) (s .pre .1 .1), refl, refl, refl)
+    let s = c .before .before .before .before .before .before .before .before in
+    (passing-none _ _ _ _ _ _ _ (s .pre .0 .3) (s .pre .1 .1), kept-none _ _ _, refl, refl, refl, refl)
 
 share-block-requires : tie.Need-share-block-requires Inv-loop μ-loop
 share-block-requires c κs =
-    let s = c .before .before .before .before .before .before .before .before .before .before .before .before in
+    let s = c .before .before .before .before .before .before .before .before .before .before .before .before .before in
     ((s .pre .0 .0, s .pre .0 .1, omega (arith, s .pre .0 .2)), (s .pre .1 .0, c .before .before .before .before .loop .inv .0 .paced))
 
 same-length : tie.Need-same-length Inv-loop μ-loop
@@ -38,11 +41,27 @@ same-length-2 c = search needs
 same-length-3 : tie.Need-same-length-3 Inv-loop μ-loop
 same-length-3 c = search needs
 
+same-length-4 : tie.Need-same-length-4 Inv-loop μ-loop
+same-length-4 c = search needs
+
 returns : tie.Need-returns Inv-loop μ-loop
 returns c =
     let share = c .before .before .before .before .before .before .before .share-block .ensures in
     let inv = c .before .before .before .before .before .before .before .before .before .before .before .before .loop .inv in
-    passing-short _ _ _ (inv .0) (search needs) (sym (share .1 .0) ∙ c .if1 .taken)
+    (passing-short _ _ _ (inv .0) (search needs) (sym (share .1 .0) ∙ c .if1 .taken), inv .1)
+
+cast-cuts : tie.Need-cast-cuts Inv-loop μ-loop
+cast-cuts c = omega (arith, c .before .before .before .before .before .before .before .before .share-block .ensures .1 .1 .1 .1)
+
+cast-cuts-2 : tie.Need-cast-cuts-2 Inv-loop μ-loop
+cast-cuts-2 c = search needs
+
+slice-write-cuts : tie.Need-slice-write-cuts Inv-loop μ-loop
+slice-write-cuts c =
+    let at-loop-test = c .before .before .before .before .before .before .before .before .before .before .before .before in
+    let at-loop = at-loop-test .before in
+    let s = at-loop .before .before .before .before .before .before .before .before .before in
+    omega (arith, at-loop-test .loop-test .taken, at-loop .loop .inv .5, s .pre .0 .4)
 
 add-b : tie.Need-add-b Inv-loop μ-loop
 add-b c = search needs
@@ -52,13 +71,11 @@ loop-less c = search needs
 
 loop-again : tie.Need-loop-again Inv-loop μ-loop
 loop-again c =
-    let share = c .before .before .before .before .before .before .before .share-block .ensures in
-    let inv = c .before .before .before .before .before .before .before .before .before .before .before .before .loop .inv in
-    let next = passing-more _ _ _ _ (inv .0) (search needs) (sym (share .1 .0) ∙ c .if1 .left) (share .0) (share .1 .1) in
-    (next, search needs, search needs, search needs)
-
-same-length-4 : tie.Need-same-length-4 Inv-loop μ-loop
-same-length-4 c = search needs
+    let share = c .before .before .before .before .before .before .before .before .share-block .ensures in
+    let inv = c .before .before .before .before .before .before .before .before .before .before .before .before .before .loop .inv in
+    let next = passing-more _ _ _ _ (inv .0) (search needs) (sym (share .1 .0) ∙ c .before .if1 .left) (share .0) (share .1 .1 .0) in
+    let kept = kept-more _ (inv .1) (inv .0 .least) (slice-write-cuts c) (share .1 .1 .1 .0) in
+    (next, kept, search needs, search needs, search needs, search needs)
 
 same-length-5 : tie.Need-same-length-5 Inv-loop μ-loop
 same-length-5 c = search needs
@@ -66,8 +83,16 @@ same-length-5 c = search needs
 same-length-6 : tie.Need-same-length-6 Inv-loop μ-loop
 same-length-6 c = search needs
 
+same-length-7 : tie.Need-same-length-7 Inv-loop μ-loop
+same-length-7 c = search needs
+
+same-length-8 : tie.Need-same-length-8 Inv-loop μ-loop
+same-length-8 c = search needs
+
 returns-2 : tie.Need-returns-2 Inv-loop μ-loop
-returns-2 c = passing-end (c .before .loop .inv .0) (search needs)
+returns-2 c =
+    let inv = c .before .loop .inv in
+    (passing-end (inv .0) (search needs), kept-to (inv .1) (omega (arith, inv .0 .most, c .loop-test .left)))
 
 pub pass-blocks-spec : {M : Type 1} → statement M
 pass-blocks-spec =
@@ -80,11 +105,16 @@ pass-blocks-spec =
     same-length
     same-length-2
     same-length-3
+    same-length-4
     returns
+    cast-cuts
+    cast-cuts-2
+    slice-write-cuts
     add-b
     loop-less
     loop-again
-    same-length-4
     same-length-5
     same-length-6
+    same-length-7
+    same-length-8
     returns-2)

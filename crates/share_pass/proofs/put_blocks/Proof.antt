@@ -1,4 +1,4 @@
--- `put_blocks`: each block is SA2's next, and is written where the one before has stopped.
+-- `put_blocks`: each block is SA2's next, by the cut that was kept of it, and is written where the one before has stopped.
 -- Assumes nothing.
 use Prim.Native.Nat.{_+_, _-_, _≤_}
 use mathlib.Core.Path.{_≡_, refl, sym}
@@ -8,60 +8,84 @@ use borrow.Author.Needs.{needs}
 use lib.ListN.{length}
 use Rattle.laws.proofs.Writing.{length-lent}
 use Rattle.plan_laws.proofs.Planned.{length-duties}
+use Rattle.paper.specs.Sa2.{needsAt}
+use Rattle.share_laws.proofs.CutFinds.{cut-most}
 use Rattle.share_block.specs.Paced.{sharingBy}
 use Rattle.share_pass.proofs.Putting.{Putting, putting-none, putting-room, putting-more, putting-end}
 use Rattle.share_pass.proofs.put_blocks.Statement.{statement}
 use Rattle.share_pass.proofs.put_blocks.Tie as tie
 
 abbrev Inv-loop : tie.InvT-loop
-Inv-loop t engines services periods rate rest blocks whole₀ part₀ total list₀ sum₀ at₀ b₀ whole part list sum at b =
-    Putting (sharingBy t engines services periods) blocks list₀ b at sum whole part list
+Inv-loop t engines services periods rate rest blocks cuts whole₀ part₀ list₀ at₀ b₀ whole part list at b =
+    Putting (sharingBy t engines services periods) blocks list₀ b at whole part list
     × (length whole ≡ length whole₀) × (length part ≡ length part₀) × (length list ≡ length list₀)
 
 abbrev μ-loop : tie.MeasureT-loop
-μ-loop t engines services periods rate rest blocks whole₀ part₀ total list₀ sum₀ at₀ b₀ whole part list sum at b =
-    blocks - b
+μ-loop t engines services periods rate rest blocks cuts whole₀ part₀ list₀ at₀ b₀ whole part list at b = blocks - b
 
 loop-holds : tie.Need-loop-holds Inv-loop μ-loop
-loop-holds c = (putting-none _ _ _ _ _ _ (c .before .before .before .before .before .before .before .pre .1 .1), refl, refl, refl)
+loop-holds c = (putting-none _ _ _ _ _ (c .before .before .before .before .before .before .before .before .pre .1 .1 .0), refl, refl, refl)
 
--- where the function began
-abbrev begun : tie.At-loop Inv-loop μ-loop → tie.Start Inv-loop μ-loop
-begun c = c .before .before .before .before .before .before .before .before
+cast-cut : tie.Need-cast-cut Inv-loop μ-loop
+cast-cut c = search needs
 
--- the next block has room
+shared-slice-read-cut : tie.Need-shared-slice-read-cut Inv-loop μ-loop
+shared-slice-read-cut c =
+    let at-loop-test = c .before in
+    let s = at-loop-test .before .before .before .before .before .before .before .before .before .before in
+    omega (arith, at-loop-test .loop-test .taken, s .pre .0 .1)
+
+cast-cut-2 : tie.Need-cast-cut-2 Inv-loop μ-loop
+cast-cut-2 c =
+    let s = c .before .before .before .before .before .before .before .before .before .before .before in
+    let b = c .before .before .loop .b in
+    let is = s .pre .1 .1 .1 b (omega arith) (c .before .loop-test .taken) in
+    let plan = sharingBy (s .args .t) (s .args .engines) (s .args .services .now) (s .args .periods .now) in
+    let most = cut-most plan (needsAt plan b) in
+    omega (arith, is, most, length-duties (s .args .services .now) (s .args .periods .now), s .pre .0 .0 .paired .few)
+
+-- where the function began, from inside the loop
+abbrev begun : tie.In-loop Inv-loop μ-loop → tie.Start Inv-loop μ-loop
+begun c = c .before .before .before .before .before .before .before .before .before .before
+
+-- the next block has room, so its place is in the list
 room :
-    (c : tie.After-share-block-arg Inv-loop μ-loop) → let loop = c .before .before .loop in
-    loop .at + length (begun (c .before .before) .args .services .now) ≤ length (loop .list)
+    (c : tie.In-loop Inv-loop μ-loop) → let loop = c .before .loop in
+    loop .at + length (begun c .args .services .now) ≤ length (loop .list)
 room c =
-    let s = begun (c .before .before) in
+    let s = begun c in
     let n = sym (length-duties (s .args .services .now) (s .args .periods .now)) in
-    putting-room _ (c .before .before .loop .inv .0) (search needs) n (s .pre .0 .2)
+    putting-room _ (c .before .loop .inv .0) (c .loop-test .taken) n (s .pre .0 .2)
 
-mul-share-block : tie.Need-mul-share-block Inv-loop μ-loop
-mul-share-block c =
-    let h : c .before .before .before .loop .at ≤ length (c .before .before .before .loop .list) = omega (arith, room (c .before)) in
-    search needs
+placed : (c : tie.In-loop Inv-loop μ-loop) → let loop = c .before .loop in loop .at ≤ length (loop .list)
+placed c = omega (arith, room c)
 
-sub-share-block : tie.Need-sub-share-block Inv-loop μ-loop
-sub-share-block c = omega (arith, room (c .before))
+mul-share-by-cut : tie.Need-mul-share-by-cut Inv-loop μ-loop
+mul-share-by-cut c = let h = placed (c .before .before .before) in search needs
 
-part-share-block-start : tie.Need-part-share-block-start Inv-loop μ-loop
-part-share-block-start c = sub-share-block c
+sub-share-by-cut : tie.Need-sub-share-by-cut Inv-loop μ-loop
+sub-share-by-cut c = placed (c .before .before .before)
 
-part-share-block-end : tie.Need-part-share-block-end Inv-loop μ-loop
-part-share-block-end c = le-refl _
+part-share-by-cut-start : tie.Need-part-share-by-cut-start Inv-loop μ-loop
+part-share-by-cut-start c = sub-share-by-cut c
 
-share-block-requires : tie.Need-share-block-requires Inv-loop μ-loop
-share-block-requires c κs =
-    let s = begun (c .before .before .before .before) in
-    let inv = c .before .before .before .before .loop .inv in
-    ((s .pre .0 .0, s .pre .0 .1, rw length-lent (omega (arith, room (c .before .before)))), (s .pre .1 .0, inv .0 .paced))
+part-share-by-cut-end : tie.Need-part-share-by-cut-end Inv-loop μ-loop
+part-share-by-cut-end c = le-refl _
+
+share-by-cut-requires : tie.Need-share-by-cut-requires Inv-loop μ-loop
+share-by-cut-requires c κs =
+    let at-loop-test = c .before .before .before .before in
+    let at-loop = at-loop-test .before in
+    let s = at-loop .before .before .before .before .before .before .before .before .before in
+    let loop = at-loop .loop in
+    let cut = s .pre .1 .1 .1 (loop .b) (omega arith) (at-loop-test .loop-test .taken) in
+    ((s .pre .0 .0, rw length-lent (omega (arith, room at-loop-test))), (s .pre .1 .0, (loop .inv .0 .needed, cut)))
 
 add-at : tie.Need-add-at Inv-loop μ-loop
 add-at c =
-    let s = begun (c .before .before .before .before .before .before .before .before .before .before .before) in
-    omega (arith, mul-share-block (c .before .before .before .before .before .before .before .before) .fits, s .pre .0 .0 .paired .few)
+    let lending = c .before .before .before .before .before .before .before .before in
+    let s = lending .before .before .before .before .before .before .before .before .before .before .before .before .before in
+    omega (arith, mul-share-by-cut lending .fits, s .pre .0 .0 .paired .few)
 
 add-b : tie.Need-add-b Inv-loop μ-loop
 add-b c = search needs
@@ -73,9 +97,9 @@ loop-again : tie.Need-loop-again Inv-loop μ-loop
 loop-again c =
     let s = begun (c .before .before .before .before .before .before .before .before .before .before .before) in
     let n = sym (length-duties (s .args .services .now) (s .args .periods .now)) in
-    let share = c .before .before .before .before .before .before .share-block .ensures in
-    let inv = c .before .before .before .before .before .before .before .before .before .before .before .loop .inv in
-    (putting-more _ _ _ _ _ (inv .0) (search needs) n (share .0) (share .1 .1) (search needs), search needs, search needs, search needs)
+    let share = c .before .before .before .before .before .before .share-by-cut .ensures in
+    let inv = c .before .before .before .before .before .before .before .before .before .before .before .before .loop .inv in
+    (putting-more _ _ _ _ (inv .0) (search needs) n (share .0 .needs) (share .1 .1) (search needs), search needs, search needs, search needs)
 
 same-length : tie.Need-same-length Inv-loop μ-loop
 same-length c = search needs
@@ -96,11 +120,14 @@ put-blocks-spec =
     Inv-loop
     μ-loop
     loop-holds
-    mul-share-block
-    sub-share-block
-    part-share-block-start
-    part-share-block-end
-    share-block-requires
+    cast-cut
+    shared-slice-read-cut
+    cast-cut-2
+    mul-share-by-cut
+    sub-share-by-cut
+    part-share-by-cut-start
+    part-share-by-cut-end
+    share-by-cut-requires
     add-at
     add-b
     loop-less

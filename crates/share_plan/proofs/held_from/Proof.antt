@@ -1,12 +1,11 @@
 -- `held_from`: every block is looked at, and the tick's kept; the engine's row and the tick's unit are a place on its line.
 -- Assumes nothing.
 use Prim.Native.Nat.{ℕ, _+_, _*_, _/_, _%_, _≤_, _<_}
-use mathlib.Core.Path.{_≡_, sym, ap, _∙_}
+use mathlib.Core.Path.{sym, ap, _∙_}
 use mathlib.Core.List.{List}
 use native.Mathlib.Nat.{mod-lt, mul-le-mul}
 use native.Mathlib.Omega.{arith}
 use borrow.Author.Needs.{needs}
-use lib.ListN.{length, take}
 use lib.Seq.{length-take-le}
 use Rattle.paper.specs.Bytes.{small, mostTicks}
 use Rattle.paper.specs.Outcome.{answer}
@@ -34,41 +33,50 @@ cast-block c = omega (arith, inside (c .before .before), c .before .before .pre 
 slice-aggregate-survey : tie.Need-slice-aggregate-survey
 slice-aggregate-survey c = search needs
 
+slice-aggregate-survey-2 : tie.Need-slice-aggregate-survey-2
+slice-aggregate-survey-2 c = search needs
+
 survey-requires : tie.Need-survey-requires
 survey-requires c κs =
-    let s = c .before .before .before in
-    (s .pre .sliceable, s .pre .engines-most, inside s, s .pre .sliceable .paired .few)
+    let s = c .before .before .before .before in
+    (s .pre .sliceable, s .pre .engines-most, inside s, s .pre .sliceable .paired .few, s .pre .few)
 
-cast-t19 : tie.Need-cast-t19
-cast-t19 c = search needs
+cast-t22 : tie.Need-cast-t22
+cast-t22 c = search needs
 
 returns : tie.Need-returns
 returns c =
-    let s = c .before .before .before .before .before .before in
-    sym (rw (bad-steady (s .pre) _ (c .before .before .survey .ensures .found) (c .if1 .taken)))
+    let at-survey = c .before .before .before in
+    let s = at-survey .before .before .before .before .before in
+    sym (rw (bad-steady (s .pre) _ (at-survey .survey .ensures .found) (c .if1 .taken)))
 
 returns-2 : tie.Need-returns-2
 returns-2 c =
-    let s = c .before .before .before .before .before .before .before .before in
-    sym (held-none (s .pre) (s .args .engine) (s .args .tick) (good-steady (s .pre) _ (c .before .before .before .before .survey .ensures .found) (c .before .before .if1 .left)) (c .if2 .taken))
+    let s = c .before .before .before .before .before .before .before .before .before .before in
+    let steady = good-steady (s .pre) _ (c .before .before .before .before .before .survey .ensures .found) (c .before .before .if1 .left) in
+    sym (held-none (s .pre) (s .args .engine) (s .args .tick) steady (c .if2 .taken))
 
 -- the engine's row begins below 32 blocks' ticks
-place-most : (c : tie.Else2) → c .before .before .before .before .before .before .before .before .args .engine .0 * c .before .before .before .before .before .before .before .before .args .t ≤ small .mostEngines * mostTicks
-place-most c =
-    let s = c .before .before .before .before .before .before .before .before in
-    mul-le-mul {n₂ = small .mostEngines} {m₂ = mostTicks} (omega (arith, c .if2 .left, s .pre .engines-most)) (s .pre .sliceable .ticks-most)
+place-most : (s : tie.Start) → s .args .engine .0 < s .args .engines → s .args .engine .0 * s .args .t ≤ small .mostEngines * mostTicks
+place-most s h =
+    mul-le-mul {n₂ = small .mostEngines} {m₂ = mostTicks} (omega (arith, h, s .pre .engines-most)) (s .pre .sliceable .ticks-most)
 
 mul-place : tie.Need-mul-place
-mul-place c = omega (arith, place-most (c .before))
+mul-place c = omega (arith, place-most (c .before .before .before .before .before .before .before .before .before .before .before) (c .before .if2 .left))
 
 rem-place : tie.Need-rem-place
 rem-place c = search needs
 
 cast-place : tie.Need-cast-place
-cast-place c = omega (arith, unit-inside (c .before .before .before .before .before .before .before .before .before), c .before .before .before .before .before .before .before .before .before .pre .sliceable .ticks-most)
+cast-place c =
+    let s = c .before .before .before .before .before .before .before .before .before .before .before in
+    omega (arith, unit-inside s, s .pre .sliceable .ticks-most)
 
 add-place : tie.Need-add-place
-add-place c = omega (arith, place-most (c .before), unit-inside (c .before .before .before .before .before .before .before .before .before), c .before .before .before .before .before .before .before .before .before .pre .sliceable .ticks-most)
+add-place c =
+    let at-if2 = c .before in
+    let s = at-if2 .before .before .before .before .before .before .before .before .before .before in
+    omega (arith, place-most s (at-if2 .if2 .left), unit-inside s, s .pre .sliceable .ticks-most)
 
 array-share-prefix-units : tie.Need-array-share-prefix-units
 array-share-prefix-units c = search needs
@@ -77,14 +85,17 @@ slice-aggregate-held-at : tie.Need-slice-aggregate-held-at
 slice-aggregate-held-at c = sym (length-take-le _ _ (array-share-prefix-units (c .before)))
 
 held-at-requires : tie.Need-held-at-requires
-held-at-requires c κs = omega (arith, slice-aggregate-held-at c, c .before .before .before .before .before .before .before .before .before .before .pre .sliceable .paired .few)
+held-at-requires c κs =
+    let s = c .before .before .before .before .before .before .before .before .before .before .before .before in
+    omega (arith, slice-aggregate-held-at c, s .pre .sliceable .paired .few)
 
 returns-3 : tie.Need-returns-3
 returns-3 c =
-    let s = c .before .before .before .before .before .before .before .before .before .before .before in
-    let looked = c .before .before .before .before .before .before .before .survey .ensures in
+    let s = c .before .before .before .before .before .before .before .before .before .before .before .before .before in
+    let looked = c .before .before .before .before .before .before .before .before .survey .ensures in
     let all = c .before .before .before .before .before .if1 .left in
-    ap answer (c .held-at .ensures ∙ ap (λ (l : List ℕ). onLine l 0 0 (s .args .engine .0 * s .args .t + s .args .tick % s .args .t)) (kept-units (s .pre) looked all))
+    let kept = ap (λ (l : List ℕ). onLine l 0 0 (s .args .engine .0 * s .args .t + s .args .tick % s .args .t)) (kept-units (s .pre) looked all) in
+    ap answer (c .held-at .ensures ∙ kept)
     ∙ sym (held-on-line (s .pre) (s .args .engine) (s .args .tick) (good-steady (s .pre) _ (looked .found) all) (c .before .before .before .if2 .left))
 
 pub held-from-spec : {M : Type 1} → statement M
@@ -95,8 +106,9 @@ held-from-spec =
     rem-block
     cast-block
     slice-aggregate-survey
+    slice-aggregate-survey-2
     survey-requires
-    cast-t19
+    cast-t22
     returns
     returns-2
     mul-place

@@ -1,55 +1,43 @@
+-- `survey`: the lists have one entry for each duty, of at most 64.
+-- Assumes nothing.
 use mathlib.Core.Path.{sym}
-use native.Mathlib.Omega.{arith}
-use borrow.Author.Needs.{needs}
 use lib.Seq.{length-take-le}
+use borrow.Author.Needs.{needs}
 use Rattle.share_survey.proofs.survey.Statement.{statement}
 use Rattle.share_survey.proofs.survey.Tie as tie
-use Rattle.share_survey.proofs.survey.Reads as reads
-use Rattle.share_survey.proofs.survey.Lts as lts
-use Rattle.share_survey.proofs.look_through.Reads as look-through-reads
 
--- src/lib.rt:137:9
 array-borrow-prefix-rate : tie.Need-array-borrow-prefix-rate
 array-borrow-prefix-rate c = search needs
 
--- src/lib.rt:137:9
 slice-aggregate-look-through : tie.Need-slice-aggregate-look-through
 slice-aggregate-look-through c = sym (length-take-le _ _ (array-borrow-prefix-rate (c .before)))
 
--- src/lib.rt:138:9
 array-borrow-prefix-rest : tie.Need-array-borrow-prefix-rest
 array-borrow-prefix-rest c = search needs
 
--- src/lib.rt:138:9
 slice-aggregate-look-through-2 : tie.Need-slice-aggregate-look-through-2
 slice-aggregate-look-through-2 c = sym (length-take-le _ _ (array-borrow-prefix-rest (c .before)))
 
--- src/lib.rt:139:9
 array-borrow-prefix-whole : tie.Need-array-borrow-prefix-whole
 array-borrow-prefix-whole c = search needs
 
--- src/lib.rt:139:9
 slice-aggregate-look-through-3 : tie.Need-slice-aggregate-look-through-3
 slice-aggregate-look-through-3 c = sym (length-take-le _ _ (array-borrow-prefix-whole (c .before)))
 
--- src/lib.rt:140:9
 array-borrow-prefix-part : tie.Need-array-borrow-prefix-part
 array-borrow-prefix-part c = search needs
 
--- src/lib.rt:140:9
 slice-aggregate-look-through-4 : tie.Need-slice-aggregate-look-through-4
 slice-aggregate-look-through-4 c = sym (length-take-le _ _ (array-borrow-prefix-part (c .before)))
 
--- src/lib.rt:142:9
 slice-aggregate-look-through-5 : tie.Need-slice-aggregate-look-through-5
 slice-aggregate-look-through-5 c = search needs
 
--- src/lib.rt:130:5
 look-through-requires : tie.Need-look-through-requires
 look-through-requires c κs =
-    let s = c .before .before .before .before .before .before .before .before .before in
+    let s = c .before .before .before .before .before .before .before .before .before .before .before in
     let few = s .pre .0 .paired .few in (
-      (s .pre .0, s .pre .1, s .pre .2),
+      (s .pre .0, s .pre .1, s .pre .2, s .pre .4),
       (
         record {
           rates = length-take-le _ _ few;
@@ -61,11 +49,12 @@ look-through-requires c κs =
       ),
     )
 
--- src/lib.rt:112:1
 same-length : tie.Need-same-length
 same-length c = search needs
 
--- src/lib.rt:112:1
+same-length-2 : tie.Need-same-length-2
+same-length-2 c = search needs
+
 returns : tie.Need-returns
 returns c = search needs
 
@@ -84,4 +73,5 @@ survey-spec =
     slice-aggregate-look-through-5
     look-through-requires
     same-length
+    same-length-2
     returns)

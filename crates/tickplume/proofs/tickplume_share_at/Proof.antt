@@ -27,7 +27,9 @@ enum-known-why : tie.Need-enum-known-why
 enum-known-why c = search needs
 
 word-of-requires : tie.Need-word-of-requires
-word-of-requires c κs = listed-fits (share-question-listed _ _ _) (sym (c .before .before .before .share-question .ensures) ∙ ap shareAnswerAs (c .before .why .given .1))
+word-of-requires c κs =
+    listed-fits (share-question-listed _ _ _)
+    (sym (c .before .before .before .share-question .ensures) ∙ ap shareAnswerAs (c .before .why .given .1))
 
 enum-known-held : tie.Need-enum-known-held
 enum-known-held c = search needs
