@@ -1,4 +1,4 @@
--- Both calls up to the blocks. What tests 1 to 5 refuse is refused, and what 22 and 7 refuse; past them the block length is the periods'
+-- Both calls up to the blocks. What tests 1 to 5 refuse is not shared out, nor what 22 and 7 refuse; past them the block length is the periods'
 -- greatest common divisor, which divides them, and the blocks are those up to their common multiple.
 -- Assumes nothing.
 use Prim.Native.Nat.{ℕ, _≤_, _<_, _∣_}
@@ -16,19 +16,22 @@ use Rattle.paper.specs.declared.Duty.{Duty}
 use Rattle.paper.specs.declared.Engine.{Engine}
 use Rattle.paper.specs.declared.Refusal.{Refusal}
 use Rattle.paper.specs.declared.Verdict.{Verdict}
-use Rattle.paper.specs.declared.Verdict.the-variants.{Refused}
-use Rattle.paper.specs.Outcome.{Outcome, refused, answer, andThen, refusedAs, verdictAs}
+use Rattle.paper.specs.declared.Verdict.the-variants.{Refused as NotDone}
+use Rattle.paper.specs.Outcome.{refused, answer, refusedAs, verdictAs}
 use Rattle.paper.specs.Wanted.{Wanted, dutySet, taken}
 use Rattle.paper.specs.Sa2.{Sharing, sharing}
-use Rattle.paper.specs.Shares.{mostShareBlocks, blocks, overloaded, sharable, shared, roomy, steady, sharePlan, shareQuestion}
-use Rattle.paper.proofs.Outcomes.{answered, answer-one, refused-one}
+use Rattle.paper.specs.Shares.{mostShareBlocks, blocks, overloaded, sharable, shared, sharePlan, shareQuestion}
+use Rattle.paper.proofs.Outcomes.{answered, answer-one, then-refused}
 use Rattle.plan_laws.proofs.TakenWhen.{Taken, takes}
 use Rattle.plan_laws.proofs.Planned.{length-duties}
 use Rattle.duty_lists.proofs.AfterTests.{block-is, sliceable}
 use Rattle.share_laws.proofs.Blocks.{sharingOf, blocks-some, taken-some, taken-in-blocks}
 use Rattle.share_common.specs.Common.{Divided, blocksOf}
 use Rattle.share_block.specs.Paced.{sharingBy}
-use Rattle.share_plan.specs.AfterCount.{KnownBlocks, listFrom, heldFrom}
+use Rattle.share_plan.specs.declared.Measure.{Measure}
+use Rattle.share_plan.specs.declared.Measured.{Measured}
+use Rattle.share_plan.specs.declared.Measured.the-variants.{Known, Refused}
+use Rattle.share_plan.specs.AfterCount.{KnownBlocks, Measures, listFrom, heldFrom}
 
 -- the block length divides the periods
 pub divided : (ps : List ℕ) → Divided (gcdOf ps) ps
@@ -47,15 +50,9 @@ blocks-told s n =
     (refl, sym z, omega (arith, z, ltb-false mostShareBlocks (blocks s) p)))))
 
 module _ (x : Wanted) where
-  -- what the tests refuse
-  module _ (v : Verdict) (h : verdictAs v (dutySet x) ≡ taken x) (why : Refusal) (e : v ≡ Refused why) where
-    pub not-listed : (room : ℕ) → sharePlan x room ≡ refusedAs why
-    unfolding sharePlan
-    not-listed room = rw (← h, e)
-
-    pub not-asked : (q : Engine) (k : ℕ) → shareQuestion x q k ≡ refusedAs why
-    unfolding shareQuestion
-    not-asked q k = rw (← h, e)
+  -- what the tests refuse is not shared out
+  pub not-taken : (v : Verdict) → verdictAs v (dutySet x) ≡ taken x → (why : Refusal) → v ≡ NotDone why → shared x ≡ refusedAs why
+  not-taken v h why e = rw (← h, e)
 
   module _ (c : Taken x) where
     abbrev s : Sharing
@@ -75,40 +72,52 @@ module _ (x : Wanted) where
     some-periods = omega (arith, c .counts .duties, c .counts .lengths)
 
     -- 22 or 7
-    module _ (a b : ℕ) (h : blocksOf s ≡ refused a b) where
-      refused-so : sharable s ≡ refused a b
-      refused-so = go (sharable s) h
-        where
-          go : (o : Outcome Sharing) → andThen o (λ y. answer (blocks y)) ≡ refused a b → o ≡ refused a b
-          go (refused i j) e = let z = refused-one i j a b e in rw (z .0, z .1)
-          go (answer y) e = answered (blocks y) a b e
-
-      pub none-listed : (room : ℕ) → sharePlan x room ≡ refused a b
-      unfolding sharePlan
-      none-listed room = rw (shared-is, refused-so)
-
-      pub none-asked : (q : Engine) (k : ℕ) → shareQuestion x q k ≡ refused a b
-      unfolding shareQuestion
-      none-asked q k = rw (shared-is, refused-so)
+    pub not-counted : (a b : ℕ) → blocksOf s ≡ refused a b → shared x ≡ refused a b
+    not-counted a b h = shared-is ∙ then-refused (sharable s) blocks a b h
 
     -- else the blocks
-    module _ (n : ℕ) (h : blocksOf s ≡ answer n) where
-      pub known : KnownBlocks (gcdOf (x .periods)) (x .engines) (x .services) (x .periods) n
-      known =
-          let z = blocks-told s n h in
-          record {
-            sliceable = sliceable x c;
-            divides = divided (x .periods);
-            engines-most = c .counts .engines .1;
-            blocks-are = z .1;
-            some = omega (arith, some-blocks, z .1);
-            few = z .2;
-          }
+    pub counted-blocks : (n : ℕ) → blocksOf s ≡ answer n → Measures x (Known (record { ticks = gcdOf (x .periods); blocks = n }))
+    counted-blocks n h =
+        let z = blocks-told s n h in
+        let known : KnownBlocks (gcdOf (x .periods)) (x .engines) (x .services) (x .periods) n =
+        record {
+          sliceable = sliceable x c;
+          divides = divided (x .periods);
+          engines-most = c .counts .engines .1;
+          blocks-are = z .1;
+          some = omega (arith, some-blocks, z .1);
+          few = z .2;
+        } in
+        (known, shared-is ∙ z .0)
 
-      pub listed-from : (room : ℕ) → sharePlan x room ≡ listFrom room s
-      unfolding sharePlan
-      listed-from room = rw (shared-is, blocks-told s n h .0)
+  -- ---- both calls, by what was measured
 
-      pub asked-from : (q : Engine) (k : ℕ) → shareQuestion x q k ≡ heldFrom q k s
-      unfolding shareQuestion
-      asked-from q k = rw (shared-is, blocks-told s n h .0)
+  module _ {r : Measured} (m : Measures x r) where
+    measured-none : (why : Refusal) → r ≡ Refused why → shared x ≡ refusedAs why
+    measured-none why e = rw e at m
+
+    measured-some : (k : Measure) → r ≡ Known k → Measures x (Known k)
+    measured-some k e = rw e at m
+
+    pub known-blocks : (k : Measure) → r ≡ Known k → KnownBlocks (k .ticks) (x .engines) (x .services) (x .periods) (k .blocks)
+    known-blocks k e = measured-some k e .0
+
+    pub none-listed : (why : Refusal) → r ≡ Refused why → (room : ℕ) → sharePlan x room ≡ refusedAs why
+    unfolding sharePlan
+    none-listed why e room = rw (measured-none why e)
+
+    pub none-asked : (why : Refusal) → r ≡ Refused why → (q : Engine) (k : ℕ) → shareQuestion x q k ≡ refusedAs why
+    unfolding shareQuestion
+    none-asked why e q k = rw (measured-none why e)
+
+    pub listed-from :
+        (k : Measure) → r ≡ Known k → (room : ℕ)
+        → sharePlan x room ≡ listFrom room (sharingBy (k .ticks) (x .engines) (x .services) (x .periods))
+    unfolding sharePlan
+    listed-from k e room = rw (measured-some k e .1)
+
+    pub asked-from :
+        (k : Measure) → r ≡ Known k → (q : Engine) (tick : ℕ)
+        → shareQuestion x q tick ≡ heldFrom q tick (sharingBy (k .ticks) (x .engines) (x .services) (x .periods))
+    unfolding shareQuestion
+    asked-from k e q tick = rw (measured-some k e .1)

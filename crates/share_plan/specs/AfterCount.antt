@@ -7,12 +7,15 @@ use lib.ListN.{length, getD}
 use Rattle.laws.specs.Choice.{pick}
 use Rattle.paper.specs.declared.Engine.{Engine}
 use Rattle.paper.specs.declared.Held.{Held}
-use Rattle.paper.specs.Outcome.{Outcome, refused, answer, andThen}
+use Rattle.paper.specs.Outcome.{Outcome, refused, answer, andThen, refusedAs}
 use Rattle.paper.specs.Bytes.{small}
 use Rattle.paper.specs.Sa2.{Sharing}
-use Rattle.paper.specs.Shares.{blocks, shareSchedule, mostShareBlocks, roomy, steady}
+use Rattle.paper.specs.Shares.{blocks, shareSchedule, mostShareBlocks, shared, roomy, steady}
 use Rattle.duty_lists.specs.Sliceable.{Sliceable}
+use Rattle.paper.specs.Wanted.{Wanted}
 use Rattle.share_block.specs.Paced.{sharingBy}
+use Rattle.share_plan.specs.declared.Measured.{Measured}
+use Rattle.share_plan.specs.declared.Measured.the-variants.{Known, Refused}
 
 -- lists that were taken, a block length that divides their periods, and the blocks up to their common multiple
 pub record KnownBlocks (t m : ℕ) (ss ps : List ℕ) (n : ℕ) : Type 0 where
@@ -30,3 +33,10 @@ listFrom room s = andThen (roomy room s) steady
 -- 23 and 18, else the duty or idle
 abbrev pub heldFrom : Engine → ℕ → Sharing → Outcome Held
 heldFrom e k s = andThen (steady s) (λ p. pick (ltb (e .0) (p .engines)) (answer (shareSchedule p e k)) (refused 18 0))
+
+-- what tests 1 to 5, 22 and 7 come to: a refusal, or the block length and the blocks
+abbrev pub Measures : Wanted → Measured → Type 0
+Measures x (Refused why) = shared x ≡ refusedAs why
+Measures x (Known k) =
+    KnownBlocks (k .ticks) (x .engines) (x .services) (x .periods) (k .blocks)
+    × (shared x ≡ answer (sharingBy (k .ticks) (x .engines) (x .services) (x .periods)))

@@ -7,7 +7,7 @@ ghost use Rattle.paper.specs.Bytes.{small};
 ghost use Rattle.paper.specs.Wanted.{wanted};
 ghost use Rattle.paper.specs.Shares.{GivesShares, sharePlan, shareAnswerAs, shareQuestion};
 ghost use Rattle.share_block.specs.Paced.{sharingBy};
-ghost use Rattle.share_plan.specs.AfterCount.{KnownBlocks, listFrom, heldFrom};
+ghost use Rattle.share_plan.specs.AfterCount.{KnownBlocks, Measures, listFrom, heldFrom};
 use duty_lists::take_duties;
 use paper::Engine;
 use paper::Refusal;
@@ -21,6 +21,36 @@ use share_pass::held_at;
 use share_survey::survey;
 use share_survey::write_list;
 use slices::gcd_of_all;
+
+// The block length, and the blocks up to the periods' common multiple.
+pub struct Measure {
+    pub ticks: u32,
+    pub blocks: u32,
+}
+
+// What is known of the duties before a block is shared out; or why nothing is shared out.
+pub enum Measured {
+    Known(Measure),
+    Refused(Refusal),
+}
+
+// Tests 1 to 5, then 22 and 7. Past them the block length and the blocks are known.
+fn measure_blocks(engines: u32, services: &[u32], periods: &[u32]) -> Measured
+    ensures { λ r. ⌜ Measures (wanted engines (now (services .entry)) (now (periods .entry))) r ⌝ }
+{
+    let verdict = take_duties(engines, services, periods);
+    match verdict {
+        Verdict::Refused(why) => Measured::Refused(why),
+        Verdict::Done => {
+            let ticks = gcd_of_all(periods);
+            let count = block_count(ticks, engines, services, periods);
+            match count {
+                BlockCount::Refused(why) => Measured::Refused(why),
+                BlockCount::Blocks(blocks) => Measured::Known(Measure { ticks, blocks }),
+            }
+        }
+    }
+}
 
 // The builder of shares from refusal 8 on: the blocks are known. All of them are looked through before one entry is written, and the cuts that
 // were found on the way are what the writing goes by.
@@ -73,24 +103,17 @@ fn list_from(
 pub fn build_shares(engines: u32, services: &[u32], periods: &[u32], list: &mut [u32]) -> SharesTold
     ensures { λ r. ⌜ GivesShares (sharePlan (wanted engines (now (services .entry)) (now (periods .entry))) (length (now (list .entry)))) r (now (list .entry)) (now (list .exit)) ⌝ }
 {
-    let verdict = take_duties(engines, services, periods);
-    match verdict {
-        Verdict::Refused(why) => SharesTold::Refused(why),
-        Verdict::Done => {
-            let t = gcd_of_all(periods);
-            let count = block_count(t, engines, services, periods);
-            match count {
-                BlockCount::Refused(why) => SharesTold::Refused(why),
-                BlockCount::Blocks(blocks) => list_from(
-                    t,
-                    engines,
-                    services,
-                    periods,
-                    blocks,
-                    list,
-                ),
-            }
-        }
+    let measured = measure_blocks(engines, services, periods);
+    match measured {
+        Measured::Refused(why) => SharesTold::Refused(why),
+        Measured::Known(known) => list_from(
+            known.ticks,
+            engines,
+            services,
+            periods,
+            known.blocks,
+            list,
+        ),
     }
 }
 
@@ -147,24 +170,17 @@ pub fn share_question(
 ) -> ShareAnswer
     ensures { λ r. ⌜ shareAnswerAs r ≡ shareQuestion (wanted engines (now (services .entry)) (now (periods .entry))) engine tick ⌝ }
 {
-    let verdict = take_duties(engines, services, periods);
-    match verdict {
-        Verdict::Refused(why) => ShareAnswer::Refused(why),
-        Verdict::Done => {
-            let t = gcd_of_all(periods);
-            let count = block_count(t, engines, services, periods);
-            match count {
-                BlockCount::Refused(why) => ShareAnswer::Refused(why),
-                BlockCount::Blocks(blocks) => held_from(
-                    t,
-                    engines,
-                    services,
-                    periods,
-                    blocks,
-                    engine,
-                    tick,
-                ),
-            }
-        }
+    let measured = measure_blocks(engines, services, periods);
+    match measured {
+        Measured::Refused(why) => ShareAnswer::Refused(why),
+        Measured::Known(known) => held_from(
+            known.ticks,
+            engines,
+            services,
+            periods,
+            known.blocks,
+            engine,
+            tick,
+        ),
     }
 }
