@@ -22,21 +22,25 @@ enum-known-measured-2 : tie.Need-enum-known-measured-2
 enum-known-measured-2 c = search needs
 
 list-from-requires : tie.Need-list-from-requires
-list-from-requires c κs = known-blocks (asked (c .before .before .before .before .before .before .before .before)) (c .before .before .before .before .measure-blocks .ensures) _ (c .before .before .measured2 .given .1)
+list-from-requires c κs =
+    let at = c .before .before .before .before in
+    known-blocks (asked (at .before .before .before .before)) (at .measure-blocks .ensures) _ (c .before .before .measured2 .given .1)
 
 returns : tie.Need-returns
 returns c =
-    let s = c .before .before .before .before .before .before .before in
-    gives-refused _ _ _ (none-listed (asked s) (c .before .before .before .measure-blocks .ensures) _ (c .before .measured .given .1) (length (s .args .list .now)))
+    let at = c .before .before .before in
+    let s = at .before .before .before .before in
+    gives-refused _ _ _ (none-listed (asked s) (at .measure-blocks .ensures) _ (c .before .measured .given .1) (length (s .args .list .now)))
 
 same-length : tie.Need-same-length
 same-length c = search needs
 
 returns-2 : tie.Need-returns-2
 returns-2 c =
-    let s = c .before .before .before .before .before .before .before .before .before .before .before in
+    let at = c .before .before .before .before .before .before .before in
+    let s = at .before .before .before .before in
     gives-same
-    (listed-from (asked s) (c .before .before .before .before .before .before .before .measure-blocks .ensures) _ (c .before .before .before .before .before .measured2 .given .1) (length (s .args .list .now)))
+    (listed-from (asked s) (at .measure-blocks .ensures) _ (c .before .before .before .before .before .measured2 .given .1) (length (s .args .list .now)))
     (c .before .before .list-from .ensures)
 
 pub build-shares-spec : {M : Type 1} → statement M

@@ -21,7 +21,9 @@ enum-known-measured-2 : tie.Need-enum-known-measured-2
 enum-known-measured-2 c = search needs
 
 held-from-requires : tie.Need-held-from-requires
-held-from-requires c κs = known-blocks (asked (c .before .before .before .before .before .before)) (c .before .before .before .measure-blocks .ensures) _ (c .before .measured2 .given .1)
+held-from-requires c κs =
+    let at = c .before .before .before in
+    known-blocks (asked (at .before .before .before)) (at .measure-blocks .ensures) _ (c .before .measured2 .given .1)
 
 returns : tie.Need-returns
 returns c =
@@ -30,9 +32,10 @@ returns c =
 
 returns-2 : tie.Need-returns-2
 returns-2 c =
-    let s = c .before .before .before .before .before .before .before in
+    let at = c .before .before .before .before in
+    let s = at .before .before .before in
     c .held-from .ensures
-    ∙ sym (asked-from (asked s) (c .before .before .before .before .measure-blocks .ensures) _ (c .before .before .measured2 .given .1) (s .args .engine) (s .args .tick))
+    ∙ sym (asked-from (asked s) (at .measure-blocks .ensures) _ (c .before .before .measured2 .given .1) (s .args .engine) (s .args .tick))
 
 pub share-question-spec : {M : Type 1} → statement M
 share-question-spec =
