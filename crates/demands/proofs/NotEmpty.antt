@@ -1,8 +1,8 @@
 -- The theorems of `Demands` speak of something. A table written by hand is accepted, and the builder plans it for no engines and duties: it
 -- has five runs where SA1 has two. The table and the bytes of P2 meet the theorems' hypotheses, and what the theorems then say of them
--- is stated here. Sets that the builder plans and sets that it refuses stand in `CasesHold`.
+-- is stated here, and of 004's table 3 as a plan of shares. Sets that the builder plans and sets that it refuses stand in `CasesHold`.
 -- Assumes nothing.
-use Prim.Native.Nat.{ℕ}
+use Prim.Native.Nat.{ℕ, _*_}
 use mathlib.Core.Path.{_≡_, refl, ap, _∙_}
 use mathlib.Core.List.{List, [], _∷_}
 use native.Mathlib.Omega.{arith}
@@ -30,7 +30,10 @@ use Rattle.paper.specs.Statements.{Meets}
 use Rattle.paper.specs.Answers.{rowsAt, advanced, question}
 use Rattle.table_laws.proofs.Bytes.{encode-bytes}
 use Rattle.table_laws.proofs.AcceptedBytes.{accepted-meets}
+use Rattle.paper.specs.Shares.{shareSchedule, sharePlan}
+use Rattle.paper.specs.ShareCases.{wantedIn, sharingIn, table3}
 use Rattle.demands.proofs.Demands.{plan-sa1, jobs-served, question-walks, strange-refused}
+use Rattle.demands.proofs.ShareDemands.{share-jobs-served, sets-hold}
 
 -- ---- a table that the builder does not write
 
@@ -94,3 +97,13 @@ state-of-byHand =
 pub built-p2 : (build (wanted 1 (1 ∷ []) (1 ∷ [])) 30 ≡ answer (1 ∷ 1 ∷ 0 ∷ 0 ∷ 0 ∷ 1 ∷ 1 ∷ 2 ∷ 1 ∷ 0 ∷ 0 ∷ 0 ∷ 1 ∷ 0 ∷ 0 ∷ 0 ∷ 3 ∷ 0 ∷ 0 ∷ 0 ∷ 0 ∷ 0 ∷ 0 ∷ 1 ∷ 0 ∷ 0 ∷ 0 ∷ 4 ∷ 1 ∷ 0 ∷ [])) × (build (wanted 1 (1 ∷ []) (1 ∷ [])) 29 ≡ refused 8 30)
 unfolding build fitted plan taken inRange planAt badRange badSlice sa1 lay layOne rowAfter unitAfter slice whole blockLengthOf gcdOf gcd euclid dutiesOf tab sumOf first encode headBytes dutyBytes runBytes endBytes flat digits
 built-p2 = (refl, refl)
+
+-- ---- a plan of shares
+
+-- 004's table 3 is given ..
+table3-given : sharePlan (wantedIn table3) 36 ≡ answer (sharingIn table3)
+table3-given = sets-hold 0 (omega arith) .0 .0
+
+-- .. so each job of its duty 5 gets 37 ticks in its 60
+pub table3-served : (q : ℕ) → served 3 (shareSchedule (sharingIn table3)) 5 (q * 60) 60 ≡ 37
+table3-served q = share-jobs-served (wantedIn table3) 36 (sharingIn table3) table3-given 5 q (omega arith)
