@@ -92,7 +92,7 @@ nextCall b state = needing 33 state (entries stateEntries (advanced b (stateIn s
 unfoldable pub countCall : List ℕ → ℕ → List ℕ → Outcome (List ℕ)
 countCall b n lent = needing 1 lent (entries (λ x. x ∷ []) (counted b n))
 
--- the builder of shares: its answer is the reading, entries, block length and blocks; the list is left as by it
+-- the builder of shares: its answer is the reading, that is entries, block length and blocks; the lent list has the allotments over its front
 abbrev pub shareReadingEntries : ShareReading → List ℕ
 shareReadingEntries rd = rd .entries ∷ rd .«block_length» ∷ rd .blocks ∷ []
 
