@@ -1,7 +1,7 @@
 //! Shares in Rust that is written for the processor's lanes, eight duties together: how fast it can be by hand. The benchmark
 //! shows the library beside it too; plain Rust is in `plain.rs`.
 
-use crate::plain::{blocks_of, Refused, Told};
+use crate::plain::{blocks_of, duty_at, Refused, Told};
 
 /// How many duties are moved on together.
 const LANES: usize = 8;
@@ -132,13 +132,5 @@ pub fn share_at(
     if engine >= engines {
         return Err((18, 0));
     }
-    let place = engine as u64 * t + tick % t;
-    let mut end = 0;
-    for (i, &n) in units[..first.duties].iter().enumerate() {
-        end += n as u64;
-        if place < end {
-            return Ok(Some(i as u32));
-        }
-    }
-    Ok(None)
+    Ok(duty_at(&units[..first.duties], engine as u64 * t + tick % t))
 }

@@ -435,6 +435,18 @@ pub fn shares_copied(engines: u32, services: &[u32], periods: &[u32], out: &mut 
     Ok((needed, first.ticks, first.blocks))
 }
 
+/// Who has a place, where the duties' units lie one after the other.
+pub fn duty_at(units: &[i32], place: u64) -> Option<u32> {
+    let mut end = 0;
+    for (i, &n) in units.iter().enumerate() {
+        end += n as u64;
+        if place < end {
+            return Some(i as u32);
+        }
+    }
+    None
+}
+
 /// What an engine does at a tick in the plan of shares.
 pub fn share_at(
     engines: u32,
@@ -456,13 +468,5 @@ pub fn share_at(
     if engine >= engines {
         return Err((18, 0));
     }
-    let place = engine as u64 * t + tick % t;
-    let mut end = 0;
-    for (i, &n) in units[..first.duties].iter().enumerate() {
-        end += n as u64;
-        if place < end {
-            return Ok(Some(i as u32));
-        }
-    }
-    Ok(None)
+    Ok(duty_at(&units[..first.duties], engine as u64 * t + tick % t))
 }

@@ -2,7 +2,7 @@
 -- how a list that is made step by step is shown to have it, and by index, which is how it is used.
 -- Assumes nothing.
 use Prim.Native.Nat.{ℕ, zero, suc, _<_}
-use mathlib.Core.List.{List, [], _∷_, map}
+use mathlib.Core.List.{List, [], _∷_, _++_, map}
 use native.Mathlib.Nat.{not-suc-le-zero, le-of-suc-le-suc}
 use native.Mathlib.Omega.{arith}
 use lib.ListN.{length, getD}
@@ -12,6 +12,11 @@ pub use Rattle.laws.specs.Lists.{Each}
 abbrev pub Pairs : {A : Type 0} → (A → A → Type 0) → List A → Type 0
 Pairs R [] = Unit
 Pairs R (x ∷ xs) = Each (R x) xs × Pairs R xs
+
+-- of two lists one after the other
+pub each-append : {A : Type 0} (P : A → Type 0) (xs ys : List A) → Each P xs → Each P ys → Each P (xs ++ ys)
+each-append P [] ys h k = k
+each-append P (x ∷ xs) ys h k = (h .0, each-append P xs ys (h .1) k)
 
 -- what follows from P holds of each entry too
 pub each-map : {A : Type 0} (P Q : A → Type 0) → ((x : A) → P x → Q x) → (xs : List A) → Each P xs → Each Q xs

@@ -4,7 +4,7 @@
 use Prim.Native.Nat.{ℕ, _+_, _*_, _-_, _/_, _%_, _≤_, _<_}
 use mathlib.Core.Path.{_≡_}
 use mathlib.Core.Bool.{true, false}
-use mathlib.Core.List.{List, [], _∷_}
+use mathlib.Core.List.{List, [], _∷_, _++_}
 use mathlib.Core.Logic.{_⊎_}
 use lib.ListN.{length, getD}
 use Rattle.laws.specs.Sum.{sumTo}
@@ -100,30 +100,40 @@ HoldsShares c = Each (SaysShares c) (c .facts)
 
 -- ---- the sets
 
--- 004, table 3, with its "r" and "a" for each block: 5½ is 10 twentieths, 7⅔ is 20 thirtieths, 6⅙ is 10 sixtieths, and so on
+-- 004, table 3: its "r" for each block (5½ is 10 twentieths, 7⅔ is 20 thirtieths, 6⅙ is 10 sixtieths, and so on), ..
+abbrev pub table3Needs : List ShareFact
+table3Needs =
+    needing 0 (need 6 0 ∷ need 5 10 ∷ need 7 20 ∷ need 3 0 ∷ need 1 20 ∷ need 6 10 ∷ [])
+    ∷ needing 1 (need 6 0 ∷ need 5 0 ∷ need 7 10 ∷ need 3 0 ∷ need 2 10 ∷ need 6 20 ∷ [])
+    ∷ needing 2 (need 6 0 ∷ need 5 10 ∷ need 7 0 ∷ need 3 0 ∷ need 2 0 ∷ need 6 30 ∷ [])
+    ∷ needing 3 (need 6 0 ∷ need 5 0 ∷ need 7 20 ∷ need 3 0 ∷ need 1 20 ∷ need 6 40 ∷ [])
+    ∷ needing 4 (need 6 0 ∷ need 5 10 ∷ need 7 10 ∷ need 3 0 ∷ need 1 10 ∷ need 6 50 ∷ [])
+    ∷ needing 5 (need 6 0 ∷ need 5 0 ∷ need 7 0 ∷ need 3 0 ∷ need 2 0 ∷ need 7 0 ∷ []) ∷ []
+
+-- .. its "a", ..
+abbrev pub table3Units : List ShareFact
+table3Units =
+    allotted 0 (6 ∷ 6 ∷ 8 ∷ 3 ∷ 1 ∷ 6 ∷ [])
+    ∷ allotted 1 (6 ∷ 5 ∷ 8 ∷ 3 ∷ 2 ∷ 6 ∷ [])
+    ∷ allotted 2 (6 ∷ 6 ∷ 7 ∷ 3 ∷ 2 ∷ 6 ∷ [])
+    ∷ allotted 3 (6 ∷ 5 ∷ 8 ∷ 3 ∷ 2 ∷ 6 ∷ [])
+    ∷ allotted 4 (6 ∷ 6 ∷ 8 ∷ 3 ∷ 1 ∷ 6 ∷ [])
+    ∷ allotted 5 (6 ∷ 5 ∷ 7 ∷ 3 ∷ 2 ∷ 7 ∷ []) ∷ []
+
+-- .. and who runs at some ticks of block 1, and of the block that repeats it
+abbrev pub table3Ticks : List ShareFact
+table3Ticks =
+    sharedTick 15 (engine 0) (By 0) ∷ sharedTick 16 (engine 0) (By 1) ∷ sharedTick 10 (engine 1) (By 1) ∷ sharedTick 12 (engine 2) (By 4)
+    ∷ sharedTick 72 (engine 2) (By 4) ∷ []
+
+-- "An example where the conditions of Theorem 3.3 is satisfied"
 abbrev pub table3 : ShareCase
 table3 =
     record {
       engines = 3;
       duties = duty 6 10 ∷ duty 11 20 ∷ duty 23 30 ∷ duty 6 20 ∷ duty 5 30 ∷ duty 37 60 ∷ [];
       room = 36;
-      facts =
-          sharedIn 10 6
-          ∷ needing 0 (need 6 0 ∷ need 5 10 ∷ need 7 20 ∷ need 3 0 ∷ need 1 20 ∷ need 6 10 ∷ [])
-          ∷ allotted 0 (6 ∷ 6 ∷ 8 ∷ 3 ∷ 1 ∷ 6 ∷ [])
-          ∷ needing 1 (need 6 0 ∷ need 5 0 ∷ need 7 10 ∷ need 3 0 ∷ need 2 10 ∷ need 6 20 ∷ [])
-          ∷ allotted 1 (6 ∷ 5 ∷ 8 ∷ 3 ∷ 2 ∷ 6 ∷ [])
-          ∷ needing 2 (need 6 0 ∷ need 5 10 ∷ need 7 0 ∷ need 3 0 ∷ need 2 0 ∷ need 6 30 ∷ [])
-          ∷ allotted 2 (6 ∷ 6 ∷ 7 ∷ 3 ∷ 2 ∷ 6 ∷ [])
-          ∷ needing 3 (need 6 0 ∷ need 5 0 ∷ need 7 20 ∷ need 3 0 ∷ need 1 20 ∷ need 6 40 ∷ [])
-          ∷ allotted 3 (6 ∷ 5 ∷ 8 ∷ 3 ∷ 2 ∷ 6 ∷ [])
-          ∷ needing 4 (need 6 0 ∷ need 5 10 ∷ need 7 10 ∷ need 3 0 ∷ need 1 10 ∷ need 6 50 ∷ [])
-          ∷ allotted 4 (6 ∷ 6 ∷ 8 ∷ 3 ∷ 1 ∷ 6 ∷ [])
-          ∷ needing 5 (need 6 0 ∷ need 5 0 ∷ need 7 0 ∷ need 3 0 ∷ need 2 0 ∷ need 7 0 ∷ [])
-          ∷ allotted 5 (6 ∷ 5 ∷ 7 ∷ 3 ∷ 2 ∷ 7 ∷ [])
-          ∷ meets33
-          ∷ sharedTick 15 (engine 0) (By 0) ∷ sharedTick 16 (engine 0) (By 1) ∷ sharedTick 10 (engine 1) (By 1) ∷ sharedTick 12 (engine 2) (By 4)
-          ∷ sharedTick 72 (engine 2) (By 4) ∷ [];
+      facts = sharedIn 10 6 ∷ meets33 ∷ table3Needs ++ table3Units ++ table3Ticks;
     }
 
 -- document 01's P5, which SA1 refuses with 6

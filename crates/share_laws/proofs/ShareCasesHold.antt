@@ -2,6 +2,7 @@
 -- Assumes nothing.
 use Prim.Native.Nat.{ℕ, _*_, _-_, _≤_, _<_}
 use mathlib.Core.Path.{_≡_, refl}
+use mathlib.Core.List.{_++_}
 use mathlib.Core.Logic.{_⊎_, inl}
 use native.Mathlib.Omega.{arith}
 use lib.ListN.{length}
@@ -11,7 +12,7 @@ use Rattle.laws.specs.Divisor.{gcd, gcdOf, euclid, lcm, lcmOf}
 use Rattle.laws.specs.Lists.{tab, sumOf}
 use Rattle.laws.proofs.Cases.{not-both}
 use Rattle.laws.proofs.Search.{Clear}
-use Rattle.laws.proofs.Each.{Each, each-at}
+use Rattle.laws.proofs.Each.{Each, each-append, each-at}
 use Rattle.paper.specs.declared.Duty.{Duty}
 use Rattle.paper.specs.Duties.{duty, same}
 use Rattle.paper.specs.Words.{heldIn, covers, blockLengthOf}
@@ -30,6 +31,9 @@ use Rattle.paper.specs.ShareCases.{
   Condition34,
   sharingIn,
   wantedIn,
+  table3Needs,
+  table3Units,
+  table3Ticks,
   table3,
   p5Shared,
   smallest23,
@@ -78,48 +82,21 @@ met-34 = ((refl, omega arith), (refl, omega arith))
 
 -- ---- all that is stated
 
+-- table 3's needs, units and ticks
+figures-table3 : Each (SaysShares table3) table3Needs × Each (SaysShares table3) table3Units
+unfolding free wants wantingTo chosen raisedUnits nextNeed needsAt allotments tab sumTo blockLengthOf gcdOf gcd euclid
+figures-table3 = ((refl, (refl, (refl, (refl, (refl, (refl, tt)))))), (refl, (refl, (refl, (refl, (refl, (refl, tt)))))))
+
+ticks-table3 : Each (SaysShares table3) table3Ticks
+unfolding shareSchedule laidOut lay layOne rowAfter unitAfter heldIn covers free wants wantingTo chosen raisedUnits nextNeed needsAt allotments tab sumTo blocks lcmOf lcm common blockLengthOf gcdOf gcd euclid
+ticks-table3 = (refl, (refl, (refl, (refl, (refl, tt)))))
+
 hold-table3 : HoldsShares table3
-unfolding free wants wantingTo chosen raisedUnits nextNeed needsAt allotments tab sumTo shareSchedule laidOut lay layOne rowAfter unitAfter heldIn covers blocks lcmOf lcm common blockLengthOf gcdOf gcd euclid
-hold-table3 = (
-  (given-told .0, refl, refl),
-  (
-    refl,
-    (
-      refl,
-      (
-        refl,
-        (
-          refl,
-          (
-            refl,
-            (
-              refl,
-              (
-                refl,
-                (
-                  refl,
-                  (
-                    refl,
-                    (
-                      refl,
-                      (
-                        refl,
-                        (
-                          refl,
-                          (met-33 .0, (refl, (refl, (refl, (refl, (refl, tt)))))),
-                        ),
-                      ),
-                    ),
-                  ),
-                ),
-              ),
-            ),
-          ),
-        ),
-      ),
-    ),
-  ),
-)
+unfolding blocks lcmOf lcm common blockLengthOf gcdOf gcd euclid
+hold-table3 =
+    let says = SaysShares table3 in
+    let figures = each-append says table3Needs table3Units (figures-table3 .0) (figures-table3 .1) in
+    ((given-told .0, refl, refl), (met-33 .0, each-append says (table3Needs ++ table3Units) table3Ticks figures ticks-table3))
 
 hold-p5 : HoldsShares p5Shared
 unfolding shareLoads loadsIn load same free wants wantingTo chosen raisedUnits nextNeed needsAt allotments tab sumTo shareSchedule laidOut lay layOne rowAfter unitAfter heldIn covers blocks lcmOf lcm common blockLengthOf gcdOf gcd euclid
