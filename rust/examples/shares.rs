@@ -62,6 +62,7 @@ fn say(name: &str, engines: u32, pairs: &[(u32, u32)]) {
 fn refused_by_the_steps() {
     say("the smallest, 1/2 1/6 1/3", 1, &[(1, 2), (1, 6), (1, 3)]);
     say("in another order, 1/2 1/3 1/6", 1, &[(1, 2), (1, 3), (1, 6)]);
+    say("smallest share first, 1/6 1/3 1/2", 1, &[(1, 6), (1, 3), (1, 2)]);
     say("too full, 2/3 2/3 3/4 11/12", 3, &[(2, 3), (2, 3), (3, 4), (11, 12)]);
     say("in another order, 11/12 3/4 2/3 2/3", 3, &[(11, 12), (3, 4), (2, 3), (2, 3)]);
     say("theorems 3.3 and 3.4, 3/6 1/18 4/9", 1, &[(3, 6), (1, 18), (4, 9)]);
