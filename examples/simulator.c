@@ -1,55 +1,81 @@
-/* A simulator's use of Tickplume: build a plan, dispatch a few blocks, ask who runs when, count the loads. Prints what it finds. */
+/* A simulator's use of Tickplume: build a plan, dispatch a few blocks, ask who runs when, count the loads. Prints what it finds.
+ *
+ *     cc -Iinclude examples/simulator.c -Ltarget/native -ltickplume -o simulator
+ */
 #include <inttypes.h>
 #include <stdio.h>
 
 #include "tickplume.h"
 
-static int refused(const char *call, uint64_t word) {
-    printf("%s refused %u %" PRIu64 "\n", call, TICKPLUME_NUMBER(word), TICKPLUME_PLACE(word));
+/* Prints a refusal's number and place, and on stderr what they mean. */
+static int refused(const char *call, tickplume_refusal_t refusal) {
+    const char *place = tickplume_place_is(refusal.kind);
+    printf("%s refused %d %" PRIu64 "\n", call, (int)refusal.kind, refusal.place);
+    fprintf(stderr, "%s: %s", call, tickplume_meaning(refusal.kind));
+    if (*place) fprintf(stderr, " (%s %" PRIu64 ")", place, refusal.place);
+    fprintf(stderr, "\n");
     return 1;
 }
 
-int main(void) {
-    /* Document 01's case P9: four duties of 3 ticks in every 4, on three engines; one chain of three rows. */
-    const uint32_t services[] = {3, 3, 3, 3}, periods[] = {4, 4, 4, 4};
-    uint8_t table[TICKPLUME_MOST_BYTES];
-    uint64_t answer[4], state[TICKPLUME_STATE], word;
-
-    if ((word = tickplume_build(3, services, 4, periods, 4, table, sizeof table, answer, 1))) return refused("build", word);
-    size_t length = (size_t)answer[0];
-    if ((word = tickplume_judge(table, length, answer, 4))) return refused("judge", word);
-    printf("block length %" PRIu64 ", engines %" PRIu64 ", duties %" PRIu64 ", runs %" PRIu64 "\n", answer[0], answer[1], answer[2],
-           answer[3]);
-
-    if ((word = tickplume_start(table, length, 0, state, TICKPLUME_STATE))) return refused("start", word);
+/* Which row each engine has, block after block. */
+static int dispatch(tickplume_table_t table, uint32_t engines) {
+    tickplume_dispatcher_t dispatcher;
+    tickplume_refusal_t refusal = tickplume_dispatcher_start(&dispatcher, table, 0);
+    if (refusal.kind) return refused("start", refusal);
     for (int block = 0; block < 4; block++) {
-        printf("block %" PRIu64 ":", state[0]);
-        for (uint32_t engine = 0; engine < 3; engine++) {
-            if ((word = tickplume_row(table, length, state, TICKPLUME_STATE, engine, answer, 1))) return refused("row", word);
-            printf(" engine %" PRIu32 " has row %" PRIu64, engine, answer[0]);
+        printf("block %" PRIu64 ":", tickplume_dispatcher_block(&dispatcher));
+        for (uint32_t engine = 0; engine < engines; engine++) {
+            tickplume_row_reply_t reply = tickplume_dispatcher_row(&dispatcher, table, tickplume_engine(engine));
+            if (reply.refusal.kind) return refused("row", reply.refusal);
+            printf(" engine %" PRIu32 " has row %" PRIu32, engine, reply.row.number);
         }
         printf("\n");
-        if ((word = tickplume_next(table, length, state, TICKPLUME_STATE))) return refused("next", word);
+        refusal = tickplume_dispatcher_next(&dispatcher, table);
+        if (refusal.kind) return refused("next", refusal);
     }
+    return 0;
+}
 
-    for (uint32_t engine = 0; engine < 3; engine++) {
+/* What each engine does, tick after tick. */
+static int ask(tickplume_table_t table, uint32_t engines) {
+    for (uint32_t engine = 0; engine < engines; engine++) {
         printf("engine %" PRIu32 ":", engine);
         for (uint64_t tick = 0; tick < 12; tick++) {
-            if ((word = tickplume_question(table, length, engine, tick, answer, 2))) return refused("question", word);
-            if (answer[1] == TICKPLUME_IDLE)
+            tickplume_reply_t reply = tickplume_table_at(table, tickplume_engine(engine), tick);
+            if (reply.refusal.kind) return refused("question", reply.refusal);
+            if (reply.duty == TICKPLUME_NONE)
                 printf(" -");
             else
-                printf(" %" PRIu64, answer[1]);
+                printf(" %" PRIu32, reply.duty);
         }
         printf("\n");
     }
+    return 0;
+}
 
-    if ((word = tickplume_count(table, length, UINT64_C(1000000000000), answer, 1))) return refused("count", word);
-    printf("loads in 1000000000000 blocks: %" PRIu64 "\n", answer[0]);
+int main(void) {
+    /* Four duties of 3 ticks in every 4, on three engines. Two of them are split over two rows, so the rows go round all engines. */
+    const tickplume_duty_t duties[] = {{3, 4}, {3, 4}, {3, 4}, {3, 4}};
+    uint8_t room[TICKPLUME_MOST_BYTES];
 
-    /* A state that is not the one for its block is refused, and so is an engine that is not there. */
-    state[1] += 1;
-    refused("row", tickplume_row(table, length, state, TICKPLUME_STATE, 0, answer, 1));
-    refused("question", tickplume_question(table, length, 3, 0, answer, 2));
+    tickplume_built_t built = tickplume_table_build(3, duties, 4, room, sizeof room);
+    if (built.refusal.kind) return refused("build", built.refusal);
+    tickplume_reading_t reading = tickplume_table_judge(built.table);
+    if (reading.refusal.kind) return refused("judge", reading.refusal);
+    printf("block length %" PRIu32 ", engines %" PRIu32 ", ", reading.block_length, reading.engines);
+    printf("duties %" PRIu32 ", runs %" PRIu32 "\n", reading.duties, reading.runs);
+
+    if (dispatch(built.table, reading.engines) || ask(built.table, reading.engines)) return 1;
+
+    tickplume_loads_t loads = tickplume_table_loads(built.table, TICKPLUME_MOST_BLOCKS);
+    if (loads.refusal.kind) return refused("count", loads.refusal);
+    printf("loads in %" PRIu64 " blocks: %" PRIu64 "\n", TICKPLUME_MOST_BLOCKS, loads.loads);
+
+    /* A dispatcher that was changed by hand is refused, and so is an engine that is not there. */
+    tickplume_dispatcher_t dispatcher;
+    tickplume_dispatcher_start(&dispatcher, built.table, 4);
+    dispatcher.state[1] += 1;
+    refused("row", tickplume_dispatcher_row(&dispatcher, built.table, tickplume_engine(0)).refusal);
+    refused("question", tickplume_table_at(built.table, tickplume_engine(3), 0).refusal);
     return 0;
 }

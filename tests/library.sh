@@ -1,6 +1,6 @@
 #!/usr/bin/env bash
-# The library as its callers link it, natively on this machine: the C examples (as C and as C++), the Rust crate's tests, the comparison
-# with the planners written apart, and the same comparison with errors planted, which must be seen; and how much stack the calls use.
+# The library as Rust programs link it, natively on this machine: the Rust crate's tests, the comparison with the planners written apart,
+# and the same comparison with errors planted, which must be seen. tests/c-and-cpp.sh has C and C++.
 set -u
 cd "$(dirname "$0")/.." || exit 2
 
@@ -12,29 +12,12 @@ need() {
     command -v "$1" >/dev/null || { echo "$1 is not there and $2 could not be installed"; exit 1; }
 }
 need gcc gcc
-need g++ g++
 need cargo cargo
 
 sh scripts/native-library tickplume || exit 1
 
 build=$(mktemp -d)
 trap 'rm -rf "$build"' EXIT
-# c_example NAME EXPECTED: builds examples/NAME.c as C and as C++ and compares what each writes with tests/expected/EXPECTED.
-c_example() {
-    strict="-Wall -Wextra -Werror -pedantic -O1 -Iinclude"
-    # shellcheck disable=SC2086
-    gcc -std=c11 $strict "examples/$1.c" -Ltarget/native -ltickplume -o "$build/$1" || exit 1
-    # shellcheck disable=SC2086
-    g++ -std=c++17 $strict -x c++ "examples/$1.c" -x none -Ltarget/native -ltickplume -o "$build/$1++" || exit 1
-    for program in "$1" "$1++"; do
-        "$build/$program" | diff -u "tests/expected/$2" - || { echo "the C example writes something else ($program)"; exit 1; }
-    done
-}
-c_example simulator simulator
-c_example shares shares-c
-
-gcc -std=c11 -Wall -Wextra -Werror -O1 -Iinclude tests/stack.c -Ltarget/native -ltickplume -pthread -o "$build/stack" || exit 1
-"$build/stack" || { echo "a call was refused, or uses too much stack"; exit 1; }
 
 (cd rust && cargo test --offline --release -q 2>&1) || exit 1
 for program in boundaries stretches shares orders; do
