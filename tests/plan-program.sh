@@ -1,5 +1,6 @@
 #!/usr/bin/env bash
-# The plan program as a person runs it: each set of examples/, and inputs at every edge of what it reads, with stored output.
+# What the plan program prints: each set of examples/, and inputs at every edge of what it reads, with stored output. How the script ends
+# and what it says besides is looked at by tests/shell.sh.
 set -u
 cd "$(dirname "$0")/.." || exit 2
 failed=0
@@ -13,7 +14,7 @@ same() {
 }
 
 for set in p1 p8 full-32-engines overload share-not-whole; do
-    ./plan <"examples/$set" | same "plan-$set"
+    ./plan <"examples/$set" 2>/dev/null | same "plan-$set"
 done
 
 # line N: N lines of `1 64` after the engines
@@ -45,6 +46,6 @@ lines() {
     head -c 4096 /dev/zero | tr '\0' 1 | ./plan     # as long as may be
     head -c 4097 /dev/zero | tr '\0' 1 | ./plan     # longer
     head -c 100000 /dev/zero | ./plan               # much longer
-} | same plan-edges
+} 2>/dev/null | same plan-edges
 
 exit "$failed"

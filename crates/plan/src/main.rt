@@ -60,11 +60,14 @@ fn run_plan(input: &[u8], out: &mut [u8; 8192]) -> usize
     }
 }
 
-// Reads, runs and prints. One byte more than the longest input is read, so that a longer one is seen.
+// Reads, runs and prints. One byte more than the longest input is read, so that a longer one is seen. Output that is lost is told on
+// standard error: a program has no status of its own to tell it by.
 fn main() {
     let mut input = [0u8; 4097];
     let n = io::read_full(0, &mut input);
     let mut out = [0u8; 8192];
     let length = run_plan(&input[..n], &mut out);
-    io::write_all(1, &out[..length]);
+    if !io::write_all(1, &out[..length]) {
+        io::write_all(2, b"plan: the output could not be written\n");
+    }
 }
