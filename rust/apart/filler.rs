@@ -173,11 +173,11 @@ pub fn judge(b: &[u8]) -> Result<Block, Refused> {
     }
     let mut rows = vec![vec![None; ticks as usize]; engines as usize];
     for (k, &(r, i, u, n)) in runs.iter().enumerate() {
-        for unit in u..u + n {
-            if rows[r][unit].is_some() {
+        for held in &mut rows[r][u..u + n] {
+            if held.is_some() {
                 return Err((14, k as u64));
             }
-            rows[r][unit] = Some(i as u8);
+            *held = Some(i as u8);
         }
     }
     if let Some(k) = runs.iter().position(|&(r, i, u, _)| u > 0 && rows[r][u - 1] == Some(i as u8)) {
@@ -185,11 +185,11 @@ pub fn judge(b: &[u8]) -> Result<Block, Refused> {
     }
     let mut taken = vec![vec![None; ticks as usize]; count];
     for (k, &(r, i, u, n)) in runs.iter().enumerate() {
-        for unit in u..u + n {
-            if taken[i][unit].is_some_and(|other| other != r as u8) {
+        for row in &mut taken[i][u..u + n] {
+            if row.is_some_and(|other| other != r as u8) {
                 return Err((16, k as u64));
             }
-            taken[i][unit] = Some(r as u8);
+            *row = Some(r as u8);
         }
     }
     let mut units = vec![0; count];

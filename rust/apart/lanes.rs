@@ -1,5 +1,5 @@
-//! Shares in Rust that is written for the processor's lanes, eight duties together: how fast it can be by hand. The benchmark
-//! shows the library beside it too; plain Rust is in `plain.rs`.
+//! Shares in Rust that is written for the processor's lanes, eight duties together: how fast it can be by hand. The
+//! benchmark shows the library beside it too; plain Rust is in `plain.rs`.
 
 use crate::plain::{blocks_of, duty_at, Refused, Told};
 

@@ -1,5 +1,5 @@
-//! The same work in plain Rust, as one would write it by hand: an independent implementation for the differential tests,
-//! and the measure for the benchmarks. It has the same checks and closed forms where the walk would be too long.
+//! The same work in plain Rust, as one would write it by hand: an independent implementation for the differential
+//! tests, and the measure for the benchmarks. It has the same checks and closed forms where the walk would be too long.
 
 /// A refusal: number and place.
 pub type Refused = (u8, u64);
@@ -338,7 +338,8 @@ pub fn blocks_of(engines: u32, services: &[u32], periods: &[u32]) -> Result<(u32
     Ok((t, (all / t as u64) as u32))
 }
 
-/// A duty on its way from block to block: it needs `whole + part / below`, and `slice + over / below` more in each block.
+/// A duty on its way from block to block: it needs `whole + part / below`, and `slice + over / below` more in each
+/// block.
 #[derive(Clone, Copy, Default)]
 struct Way {
     whole: i32,

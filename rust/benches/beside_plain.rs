@@ -3,8 +3,8 @@
 //!     cargo bench --bench beside_plain
 //!
 //! Each measure is the median of 41 rounds; in a round the two are timed one after the other over the same inputs. The
-//! ratio is library over plain Rust, below 1 is faster, with the middle half of the rounds as its spread. The buffers are
-//! written over from round to round and not cleared in between.
+//! ratio is library over plain Rust, below 1 is faster, with the middle half of the rounds as its spread. The buffers
+//! are written over from round to round and not cleared in between.
 
 #[path = "../apart/lanes.rs"]
 mod lanes;

@@ -95,7 +95,7 @@ fn compare_set(seen: &mut Seen, random: &mut Random, set: &Set, turn: Turn) -> R
             seen.refusals.insert(a.0);
             Ok(())
         }
-        _ => differ("build", &ours, theirs.as_ref().map(Vec::len), set),
+        _ => differ("build", ours, theirs.as_ref().map(Vec::len), set),
     }
 }
 

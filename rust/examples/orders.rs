@@ -1,5 +1,5 @@
-//! What helps where SA2 refuses with 23: random sets that it refuses, tried again with the duties in another order, or with
-//! one engine more. The stored output is tests/expected/orders.
+//! What helps where SA2 refuses with 23: random sets that it refuses, tried again with the duties in another order, or
+//! with one engine more. The stored output is tests/expected/orders.
 //!
 //!     cargo run --release --example orders
 

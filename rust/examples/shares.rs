@@ -1,4 +1,5 @@
-//! Plans of shares (algorithm SA2 of Khemka and Shyamasundar), and every refusal at its boundary; the stored output is tests/expected/shares.
+//! Plans of shares (algorithm SA2 of Khemka and Shyamasundar), and every refusal at its boundary; the stored output is
+//! tests/expected/shares.
 //!
 //!     cargo run --release --example shares
 

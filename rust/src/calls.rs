@@ -1,9 +1,9 @@
 //! The library's calls as safe functions, one for each, over any bytes: whatever arrives is judged first.
 
-use crate::{ffi, Duty, Engine, Held, Reading, Refusal, Reply, Row, ShareReading};
+use crate::{ffi, Duty, Engine, Held, Reading, Refusal, Reply, Row, ShareReading, MOST_ENGINES};
 
 /// The entries of a dispatcher's state: the block, then the row of each of 32 engines.
-pub const STATE: usize = 33;
+pub const STATE: usize = 1 + MOST_ENGINES;
 
 /// The mark for an idle engine.
 const IDLE: u64 = u64::MAX;
@@ -22,8 +22,19 @@ fn held(entry: u64) -> Held {
     if entry == IDLE {
         Held::Idle
     } else {
-        Held::Duty(entry as u32)
+        Held::Duty(small(entry))
     }
+}
+
+/// An answered entry that is a row, a duty, a length or a number of one of these: at most 1,000,000. No number is cut:
+/// one above 2^32 - 1 would be taken for 2^32 - 1.
+pub(crate) fn small(entry: u64) -> u32 {
+    u32::try_from(entry).unwrap_or(u32::MAX)
+}
+
+/// An answered entry that is a length of something lent, so that it fits.
+pub(crate) fn length(entry: u64) -> usize {
+    usize::try_from(entry).unwrap_or(usize::MAX)
 }
 
 /// Builds the plan of `services` and `periods` into `table` and answers its length in bytes. The bytes past it stay; a
@@ -38,8 +49,9 @@ fn held(entry: u64) -> Held {
 /// ```
 pub fn build(engines: u32, services: &[u32], periods: &[u32], table: &mut [u8]) -> Result<usize, Refusal> {
     let mut answer = [0u64; 1];
-    // SAFETY: here and below every pointer comes from a slice and goes with that slice's length, and the proved
-    // function reads and writes only inside.
+    // SAFETY: here and below every pointer comes from a slice and goes with that slice's length, so it is not null,
+    // aligned and valid for so many entries. What the function writes to comes from a `&mut`, so that it overlaps
+    // nothing else. The proved function reads and writes only inside, and keeps no pointer.
     let word = unsafe {
         ffi::tickplume_build(
             engines,
@@ -53,7 +65,7 @@ pub fn build(engines: u32, services: &[u32], periods: &[u32], table: &mut [u8]) 
             answer.len(),
         )
     };
-    told(word, answer[0] as usize)
+    told(word, length(answer[0]))
 }
 
 /// Judges any bytes: the reading of an accepted table, or the fault (10 to 17).
@@ -66,7 +78,7 @@ pub fn judge(table: &[u8]) -> Result<Reading, Refusal> {
     let mut answer = [0u64; 4];
     // SAFETY: see `build`.
     let word = unsafe { ffi::tickplume_judge(table.as_ptr(), table.len(), answer.as_mut_ptr(), answer.len()) };
-    let [block_length, engines, duties, runs] = answer.map(|x| x as u32);
+    let [block_length, engines, duties, runs] = answer.map(small);
     told(word, Reading { block_length, engines, duties, runs })
 }
 
@@ -77,7 +89,7 @@ pub fn question(table: &[u8], engine: Engine, tick: u64) -> Result<Reply, Refusa
     let word = unsafe {
         ffi::tickplume_question(table.as_ptr(), table.len(), engine.0, tick, answer.as_mut_ptr(), answer.len())
     };
-    told(word, Reply { held: held(answer[1]), row: Row(answer[0] as u32) })
+    told(word, Reply { held: held(answer[1]), row: Row(small(answer[0])) })
 }
 
 /// The dispatcher's state for a block. Refusals 10 to 17.
@@ -103,7 +115,7 @@ pub fn row(table: &[u8], state: &[u64; STATE], engine: Engine) -> Result<Row, Re
             answer.len(),
         )
     };
-    told(word, Row(answer[0] as u32))
+    told(word, Row(small(answer[0])))
 }
 
 /// The state of the next block, in the place of this one. Refusals 10 to 17, then 20, then 21; they leave the state.
@@ -155,7 +167,8 @@ pub fn shares(
         )
     };
     let [entries, block_length, blocks] = answer;
-    told(word, ShareReading { entries: entries as usize, block_length: block_length as u32, blocks: blocks as u32 })
+    let reading = ShareReading { entries: length(entries), block_length: small(block_length), blocks: small(blocks) };
+    told(word, reading)
 }
 
 /// What the engine does at the tick in the plan of shares: engine i keeps row i, so there is no row to tell. Refusals 1
@@ -180,6 +193,7 @@ pub fn share_at(engines: u32, services: &[u32], periods: &[u32], engine: Engine,
 }
 
 /// The two lists that the builders take.
+#[must_use]
 pub fn lists(duties: &[Duty]) -> (Vec<u32>, Vec<u32>) {
     duties.iter().map(|x| (x.service, x.period)).unzip()
 }

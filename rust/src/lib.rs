@@ -8,7 +8,9 @@
 //! numbers of units from block to block.
 //!
 //! The functions here are safe wrappers of a library whose every function is proved to meet its contract, for every
-//! input: each call answers, or refuses with a [`Refusal`] and changes nothing.
+//! input: each call answers, or refuses with a [`Refusal`] and changes nothing. [`calls`] has them over any bytes, one
+//! for each function of the library. The crate's README tells where the library comes from, what a call costs and which
+//! examples there are.
 //!
 //! ```
 //! use tickplume::{Duty, Engine, Held, Table};
@@ -30,14 +32,24 @@
 #![warn(missing_docs)]
 
 pub mod calls;
+mod dispatcher;
 mod ffi;
+mod listing;
+mod plan;
 mod refusal;
 mod shares;
 mod table;
 
-pub use refusal::Refusal;
+pub use dispatcher::Dispatcher;
+pub use plan::{Chain, Duty, Engine, Held, Reading, Reply, Row, Run};
+pub use refusal::{Refusal, RefusalKind};
 pub use shares::{ShareReading, Shares};
-pub use table::{Dispatcher, Duty, Engine, Held, Reading, Reply, Row, Table};
+pub use table::Table;
+
+/// The README's programs, for `cargo test`.
+#[cfg(doctest)]
+#[doc = include_str!("../README.md")]
+struct Readme;
 
 /// The most engines a plan may have.
 pub const MOST_ENGINES: usize = 32;

@@ -1,4 +1,5 @@
-use crate::{calls, Duty, Engine, Held, Refusal};
+use crate::{calls, Duty, Engine, Held, Refusal, RefusalKind};
+use std::fmt;
 
 /// What is told of a plan of shares beside its allotments.
 #[derive(Clone, Copy, Debug, PartialEq, Eq, Hash)]
@@ -9,6 +10,13 @@ pub struct ShareReading {
     pub block_length: u32,
     /// Blocks up to the periods' least common multiple, after which the plan goes on from the first again.
     pub blocks: u32,
+}
+
+/// `block length 10, blocks 6, entries 36`.
+impl fmt::Display for ShareReading {
+    fn fmt(&self, f: &mut fmt::Formatter<'_>) -> fmt::Result {
+        write!(f, "block length {}, blocks {}, entries {}", self.block_length, self.blocks, self.entries)
+    }
 }
 
 /// A plan of shares: SA2's plan of duties whose share of a block, T · service / period, need not be whole.
@@ -45,7 +53,7 @@ pub struct ShareReading {
 /// let refusal = Shares::build(1, &[d(1, 2), d(1, 6), d(1, 3)]).unwrap_err();
 /// assert_eq!((refusal.number, refusal.place), (23, 2));
 /// ```
-#[derive(Clone, Debug, PartialEq, Eq, Hash)]
+#[derive(Clone, PartialEq, Eq, Hash)]
 pub struct Shares {
     engines: u32,
     duties: Vec<Duty>,
@@ -62,22 +70,32 @@ impl Shares {
         Ok(Shares { engines, duties: duties.to_vec(), allotments, reading })
     }
 
+    /// Block length, blocks and entries of the allotments, as numbers.
+    #[must_use]
+    pub fn reading(&self) -> ShareReading {
+        self.reading
+    }
+
     /// How many engines.
+    #[must_use]
     pub fn engines(&self) -> u32 {
         self.engines
     }
 
     /// The duties.
+    #[must_use]
     pub fn duties(&self) -> &[Duty] {
         &self.duties
     }
 
     /// Ticks in a block.
+    #[must_use]
     pub fn block_length(&self) -> u32 {
         self.reading.block_length
     }
 
     /// Blocks until the plan goes on from the first again.
+    #[must_use]
     pub fn blocks(&self) -> u32 {
         self.reading.blocks
     }
@@ -92,9 +110,11 @@ impl Shares {
     /// assert_eq!(shares.allotted(u64::MAX), [1, 0]);
     /// # Ok::<(), tickplume::Refusal>(())
     /// ```
+    #[must_use]
     pub fn allotted(&self, block: u64) -> &[u32] {
+        // The library told at least one block, and wrote as many entries for each as there are duties.
         let duties = self.duties.len();
-        let first = (block % u64::from(self.reading.blocks)) as usize * duties;
+        let first = calls::length(block % u64::from(self.reading.blocks)) * duties;
         &self.allotments[first..first + duties]
     }
 
@@ -115,11 +135,22 @@ impl Shares {
     }
 }
 
+/// Without the allotments, which may be 262,144 numbers.
+impl fmt::Debug for Shares {
+    fn fmt(&self, f: &mut fmt::Formatter<'_>) -> fmt::Result {
+        f.debug_struct("Shares")
+            .field("engines", &self.engines)
+            .field("duties", &self.duties)
+            .field("reading", &self.reading)
+            .finish_non_exhaustive()
+    }
+}
+
 /// How many entries the allotments have: where none are lent, the library refuses with 8 and names them.
 fn entries_needed(engines: u32, services: &[u32], periods: &[u32]) -> Result<usize, Refusal> {
     match calls::shares(engines, services, periods, &mut []) {
         Ok(reading) => Ok(reading.entries),
-        Err(refusal) if refusal.number == 8 => Ok(refusal.place as usize),
+        Err(refusal) if refusal.kind() == RefusalKind::NoRoom => Ok(calls::length(refusal.place)),
         Err(refusal) => Err(refusal),
     }
 }

@@ -1,62 +1,61 @@
-use crate::{calls, Refusal, MOST_BYTES};
+use crate::{calls, listing, Chain, Dispatcher, Duty, Engine, Reading, Refusal, Reply, Row, Run, MOST_BYTES};
+use std::fmt;
 
-/// A duty: `service` ticks in each period of `period` ticks.
-#[derive(Clone, Copy, Debug, PartialEq, Eq, Hash)]
-pub struct Duty {
-    /// Ticks of service in each period.
-    pub service: u32,
-    /// The period, in ticks.
-    pub period: u32,
-}
-
-/// A packet engine, the hardware.
-#[derive(Clone, Copy, Debug, PartialEq, Eq, Hash, PartialOrd, Ord)]
-pub struct Engine(pub u32);
-
-/// A line of the plan for one block. Which engine runs it changes from block to block.
-#[derive(Clone, Copy, Debug, PartialEq, Eq, Hash, PartialOrd, Ord)]
-pub struct Row(pub u32);
-
-/// What an engine does at a tick.
-#[derive(Clone, Copy, Debug, PartialEq, Eq, Hash)]
-pub enum Held {
-    /// Nothing.
-    Idle,
-    /// The duty of this number.
-    Duty(u32),
-}
-
-/// The answer to the direct question: what the engine does, and from which row.
-#[derive(Clone, Copy, Debug, PartialEq, Eq, Hash)]
-pub struct Reply {
-    /// The duty, or idle.
-    pub held: Held,
-    /// The row that the engine runs in the tick's block.
-    pub row: Row,
-}
-
-/// What a judge reads off an accepted table.
-#[derive(Clone, Copy, Debug, PartialEq, Eq, Hash)]
-pub struct Reading {
-    /// Ticks in a block.
-    pub block_length: u32,
-    /// How many engines, and rows.
-    pub engines: u32,
-    /// How many duties.
-    pub duties: u32,
-    /// How many runs.
-    pub runs: u32,
-}
-
-/// An accepted table, as its bytes.
-#[derive(Clone, Debug, PartialEq, Eq, Hash)]
+/// An accepted table: the plan of one block, and how its rows move from block to block.
+///
+/// A table is its bytes, which [`build`](Table::build) makes and [`from_bytes`](Table::from_bytes) takes from anybody.
+/// What is in it can be listed:
+///
+/// ```
+/// use tickplume::{Chain, Duty, Row, Run, Table};
+///
+/// // Three duties of 2 ticks in every 3, on two engines.
+/// let duty = Duty { service: 2, period: 3 };
+/// let table = Table::build(2, &[duty; 3])?;
+/// assert_eq!(table.block_length(), 3);
+/// assert_eq!(table.duties(), [duty, duty, duty]);
+///
+/// // Duty 1 is split: it has the last unit of row 0 and the first of row 1.
+/// assert_eq!(table.runs()[1], Run { row: Row(0), duty: 1, first: 2, length: 1 });
+/// assert_eq!(table.runs()[2], Run { row: Row(1), duty: 1, first: 0, length: 1 });
+///
+/// // So the two rows are a chain: the two engines swap them at each block.
+/// assert_eq!(table.chains(), [Chain { first: Row(0), length: 2 }]);
+/// # Ok::<(), tickplume::Refusal>(())
+/// ```
+///
+/// Printed it is the text of the repository's plan program: a line for the plan (block length, engines, duties), for
+/// each duty (number, service, period), run (row, duty, first unit, length) and chain (first row, length), and one with
+/// the loads of block 0 and of each later block.
+///
+/// ```
+/// # use tickplume::{Duty, Table};
+/// # let table = Table::build(2, &[Duty { service: 2, period: 3 }; 3])?;
+/// let text = "\
+/// plan 3 2 3
+/// duty 0 2 3
+/// duty 1 2 3
+/// duty 2 2 3
+/// run 0 0 0 2
+/// run 0 1 2 1
+/// run 1 1 0 1
+/// run 1 2 1 2
+/// chain 0 2
+/// loads 4 3";
+/// assert_eq!(table.to_string(), text);
+/// # Ok::<(), tickplume::Refusal>(())
+/// ```
+#[derive(Clone, PartialEq, Eq, Hash)]
 pub struct Table {
     bytes: Vec<u8>,
     reading: Reading,
+    duties: Vec<Duty>,
+    runs: Vec<Run>,
+    chains: Vec<Chain>,
 }
 
 impl Table {
-    /// The plan that SA1 makes of the duties, on so many engines.
+    /// The plan that SA1 makes of the duties, on so many engines. Refusals 1 and 3 to 7.
     pub fn build(engines: u32, duties: &[Duty]) -> Result<Table, Refusal> {
         let (services, periods) = calls::lists(duties);
         let mut bytes = vec![0u8; MOST_BYTES];
@@ -65,23 +64,80 @@ impl Table {
         Table::from_bytes(bytes)
     }
 
-    /// A table that anybody wrote, judged.
+    /// A table that anybody wrote, judged. Refusals 10 to 17.
+    ///
+    /// ```
+    /// use tickplume::{Duty, RefusalKind, Table};
+    ///
+    /// let table = Table::build(2, &[Duty { service: 2, period: 3 }; 3])?;
+    /// let stored = table.as_bytes().to_vec();
+    /// assert_eq!(Table::from_bytes(stored)?, table);
+    ///
+    /// let cut = &table.as_bytes()[..40];
+    /// assert_eq!(Table::try_from(cut).unwrap_err().kind(), RefusalKind::TableForm);
+    /// # Ok::<(), tickplume::Refusal>(())
+    /// ```
     pub fn from_bytes(bytes: Vec<u8>) -> Result<Table, Refusal> {
         let reading = calls::judge(&bytes)?;
-        Ok(Table { bytes, reading })
+        let chains = listing::chains(&calls::start(&bytes, 1)?, reading.engines);
+        let (duties, runs) = listing::duties_and_runs(&bytes);
+        Ok(Table { bytes, reading, duties, runs, chains })
     }
 
     /// The table's bytes.
+    #[must_use]
     pub fn as_bytes(&self) -> &[u8] {
         &self.bytes
     }
 
-    /// Block length, engines, duties and runs.
+    /// The table's bytes, for the caller to keep.
+    #[must_use]
+    pub fn into_bytes(self) -> Vec<u8> {
+        self.bytes
+    }
+
+    /// Block length, engines, duties and runs, as numbers.
+    #[must_use]
     pub fn reading(&self) -> Reading {
         self.reading
     }
 
-    /// The direct question: what does the engine do at the tick? Refusal 18 where there is no such engine.
+    /// Ticks in a block.
+    #[must_use]
+    pub fn block_length(&self) -> u32 {
+        self.reading.block_length
+    }
+
+    /// The engines, by number.
+    pub fn engines(&self) -> impl ExactSizeIterator<Item = Engine> {
+        (0..self.reading.engines).map(Engine)
+    }
+
+    /// The rows, by number. There are as many as engines; which engine runs which is told by
+    /// [`rows_in`](Table::rows_in).
+    pub fn rows(&self) -> impl ExactSizeIterator<Item = Row> {
+        (0..self.reading.engines).map(Row)
+    }
+
+    /// The duties, by number.
+    #[must_use]
+    pub fn duties(&self) -> &[Duty] {
+        &self.duties
+    }
+
+    /// The runs, by row and then by first unit.
+    #[must_use]
+    pub fn runs(&self) -> &[Run] {
+        &self.runs
+    }
+
+    /// The chains, by first row. Each row is in one of them.
+    #[must_use]
+    pub fn chains(&self) -> &[Chain] {
+        &self.chains
+    }
+
+    /// The direct question: what does the engine do at the tick? Any tick. Refusal 18 where there is no such engine.
     ///
     /// ```
     /// use tickplume::{Duty, Engine, Held, Row, Table};
@@ -96,12 +152,31 @@ impl Table {
         calls::question(&self.bytes, engine, tick)
     }
 
-    /// The loads of the first `blocks` blocks. Refusal 19 above 1,000,000,000,000 blocks.
+    /// The row of each engine in a block. Any block. The library is asked once for all engines.
+    ///
+    /// ```
+    /// use tickplume::{Duty, Engine, Row, Table};
+    /// // Four duties of 3 ticks in every 4, on three engines: one chain of three rows.
+    /// let table = Table::build(3, &[Duty { service: 3, period: 4 }; 4])?;
+    /// for block in 0..4 {
+    ///     for (engine, row) in table.rows_in(block)? {
+    ///         println!("block {block}: {engine} has {row}");
+    ///     }
+    /// }
+    /// assert!(table.rows_in(1)?.eq([(Engine(0), Row(1)), (Engine(1), Row(2)), (Engine(2), Row(0))]));
+    /// # Ok::<(), tickplume::Refusal>(())
+    /// ```
+    pub fn rows_in(&self, block: u64) -> Result<impl ExactSizeIterator<Item = (Engine, Row)>, Refusal> {
+        Ok(self.engines().zip(self.dispatcher(block)?.rows()))
+    }
+
+    /// The loads of the first `blocks` blocks: how often an engine begins to run a duty that it did not run one tick
+    /// before. Refusal 19 above 1,000,000,000,000 blocks.
     pub fn loads(&self, blocks: u64) -> Result<u64, Refusal> {
         calls::count(&self.bytes, blocks)
     }
 
-    /// A dispatcher that starts at a block.
+    /// A dispatcher that starts at a block. Any block.
     ///
     /// ```
     /// use tickplume::{Duty, Engine, Row, Table};
@@ -117,47 +192,61 @@ impl Table {
     /// # Ok::<(), tickplume::Refusal>(())
     /// ```
     pub fn dispatcher(&self, block: u64) -> Result<Dispatcher, Refusal> {
-        Ok(Dispatcher { state: calls::start(&self.bytes, block)? })
+        Ok(Dispatcher::of(calls::start(&self.bytes, block)?))
     }
 }
 
-/// Which row each engine runs in a block, and how to go on to the next block.
-#[derive(Clone, Copy, Debug, PartialEq, Eq)]
-pub struct Dispatcher {
-    state: [u64; calls::STATE],
+impl AsRef<[u8]> for Table {
+    fn as_ref(&self) -> &[u8] {
+        &self.bytes
+    }
 }
 
-impl Dispatcher {
-    /// A state made by hand: a block number and 32 row numbers. Whether it is the one for its block is looked at by
-    /// each call that takes it.
-    pub fn from_parts(block: u64, rows: [Row; 32]) -> Dispatcher {
-        let mut state = [0u64; calls::STATE];
-        state[0] = block;
-        for (entry, row) in state[1..].iter_mut().zip(rows) {
-            *entry = u64::from(row.0);
+impl TryFrom<Vec<u8>> for Table {
+    type Error = Refusal;
+
+    fn try_from(bytes: Vec<u8>) -> Result<Table, Refusal> {
+        Table::from_bytes(bytes)
+    }
+}
+
+impl TryFrom<&[u8]> for Table {
+    type Error = Refusal;
+
+    fn try_from(bytes: &[u8]) -> Result<Table, Refusal> {
+        Table::from_bytes(bytes.to_vec())
+    }
+}
+
+/// What the bytes hold, in place of the bytes.
+impl fmt::Debug for Table {
+    fn fmt(&self, f: &mut fmt::Formatter<'_>) -> fmt::Result {
+        f.debug_struct("Table")
+            .field("reading", &self.reading)
+            .field("duties", &self.duties)
+            .field("runs", &self.runs)
+            .field("chains", &self.chains)
+            .finish()
+    }
+}
+
+/// What the plan program prints, without the last line feed.
+impl fmt::Display for Table {
+    fn fmt(&self, f: &mut fmt::Formatter<'_>) -> fmt::Result {
+        let Reading { block_length, engines, duties, .. } = self.reading;
+        writeln!(f, "plan {block_length} {engines} {duties}")?;
+        for (number, duty) in self.duties.iter().enumerate() {
+            writeln!(f, "duty {number} {} {}", duty.service, duty.period)?;
         }
-        Dispatcher { state }
-    }
-
-    /// The block.
-    pub fn block(&self) -> u64 {
-        self.state[0]
-    }
-
-    /// The row of each engine, 0 past the last engine.
-    pub fn rows(&self) -> [Row; 32] {
-        std::array::from_fn(|e| Row(self.state[e + 1] as u32))
-    }
-
-    /// The row that an engine runs in this block. Refusal 18 where there is no such engine, then 20 where the state is
-    /// not the one for its block.
-    pub fn row(&self, table: &Table, engine: Engine) -> Result<Row, Refusal> {
-        calls::row(&table.bytes, &self.state, engine)
-    }
-
-    /// The state of the next block. Refusal 20 where the state is not the one for its block, then 21 at the last block.
-    pub fn next(mut self, table: &Table) -> Result<Dispatcher, Refusal> {
-        calls::next(&table.bytes, &mut self.state)?;
-        Ok(self)
+        for run in &self.runs {
+            writeln!(f, "{run}")?;
+        }
+        for chain in &self.chains {
+            writeln!(f, "{chain}")?;
+        }
+        // An accepted table's loads are not refused.
+        let first = self.loads(1).map_err(|_| fmt::Error)?;
+        let both = self.loads(2).map_err(|_| fmt::Error)?;
+        write!(f, "loads {first} {}", both - first)
     }
 }

@@ -3,7 +3,8 @@
 //! dispatcher states valid, stale and made up; counts up to 10^12; plans of shares, and questions about them.
 //!
 //! TICKPLUME_COMPARISONS sets how many comparisons are made at the least, in all (200,000 by default). The seeds 1 to 8
-//! have equal shares of them, or TICKPLUME_SEED, any 64-bit number, has them all. Above 1,000,000 the progress is shown.
+//! have equal shares of them, or TICKPLUME_SEED, any 64-bit number, has them all. Above 1,000,000 the progress is
+//! shown.
 
 #[path = "../apart/plain.rs"]
 mod plain;

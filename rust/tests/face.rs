@@ -60,7 +60,7 @@ fn refusal(number: u64, place: u64) -> u64 {
     number + 256 * place
 }
 
-/// P1's table.
+/// The table of three duties of 2 ticks in every 3, on two engines.
 fn table() -> Vec<u8> {
     let (services, periods) = ([2u32; 3], [3u32; 3]);
     let mut table = vec![0u8; 100];
