@@ -205,6 +205,7 @@ uint64_t tickplume_share_at(uint32_t engines, const uint32_t *services, size_t s
 typedef struct tickplume_engine_t { uint32_t number; } tickplume_engine_t; /* the hardware, from 0 */
 typedef struct tickplume_row_t { uint32_t number; } tickplume_row_t;       /* a line of the plan, from 0 */
 typedef struct tickplume_duty_t { uint32_t service, period; } tickplume_duty_t;
+typedef struct tickplume_run_t { tickplume_row_t row; uint32_t duty, first, length; } tickplume_run_t; /* units first to first + length - 1 */
 typedef struct tickplume_table_t { const uint8_t *bytes; size_t length; } tickplume_table_t; /* the caller's bytes, not a copy */
 typedef struct tickplume_refusal_t { tickplume_kind_t kind; uint64_t place; } tickplume_refusal_t;
 
@@ -293,6 +294,45 @@ TICKPLUME_INLINE tickplume_reading_t tickplume_table_judge(tickplume_table_t tab
     reading.duties = TICKPLUME_CAST(uint32_t, answer[2]);
     reading.runs = TICKPLUME_CAST(uint32_t, answer[3]);
     return reading;
+}
+
+/* For the two functions below alone: the record of a kind at an offset, or null; and four of its bytes as a number, the lowest first. */
+TICKPLUME_INLINE const uint8_t *tickplume_record(tickplume_table_t table, uint8_t kind, size_t length, size_t offset) {
+    const size_t bytes = tickplume_length_of(table);
+    return offset <= bytes && length <= bytes - offset && table.bytes[offset] == kind ? table.bytes + offset : NULL;
+}
+
+TICKPLUME_INLINE uint32_t tickplume_number_at(const uint8_t *at) {
+    return at[0] | TICKPLUME_CAST(uint32_t, at[1]) << 8 | TICKPLUME_CAST(uint32_t, at[2]) << 16 | TICKPLUME_CAST(uint32_t, at[3]) << 24;
+}
+
+/* Duty `number` of an accepted table, read off its bytes; service and period are 0 where there is no such duty. Nothing is judged. */
+TICKPLUME_INLINE tickplume_duty_t tickplume_table_duty(tickplume_table_t table, uint32_t number) {
+    tickplume_duty_t duty = {0, 0};
+    const uint8_t *head = tickplume_record(table, 1, 7, 0), *record = NULL;
+    if (head && number < head[6]) record = tickplume_record(table, 2, 9, 7 + 9 * TICKPLUME_CAST(size_t, number));
+    if (record) {
+        duty.service = tickplume_number_at(record + 1);
+        duty.period = tickplume_number_at(record + 5);
+    }
+    return duty;
+}
+
+/* Run `number` of an accepted table, read off its bytes: they stand by row, then by first unit. Its length is 0, and row and duty are
+ * TICKPLUME_NONE, where there is no such run. Nothing is judged. With the rows that a dispatcher tells once a block, the runs tell what
+ * every engine does at every tick of it. */
+TICKPLUME_INLINE tickplume_run_t tickplume_table_run(tickplume_table_t table, uint32_t number) {
+    tickplume_run_t run = {{TICKPLUME_NONE}, TICKPLUME_NONE, 0, 0};
+    const uint8_t *head = tickplume_record(table, 1, 7, 0), *record = NULL;
+    if (head && number < TICKPLUME_MOST_RUNS)
+        record = tickplume_record(table, 3, 11, 7 + 9 * TICKPLUME_CAST(size_t, head[6]) + 11 * TICKPLUME_CAST(size_t, number));
+    if (record) {
+        run.row.number = record[1];
+        run.duty = record[2];
+        run.first = tickplume_number_at(record + 3);
+        run.length = tickplume_number_at(record + 7);
+    }
+    return run;
 }
 
 /* What does the engine do at the tick, and from which row? Any tick. Where it is idle the duty is TICKPLUME_NONE.

@@ -28,39 +28,38 @@
 
 namespace tickplume {
 
-// A packet engine, the hardware; they count from 0.
-class Engine {
+// For this header alone: a number of one kind, which compares with its own kind and is no other's.
+namespace inner {
+
+template <class Kind>
+class Numbered {
 public:
-    explicit constexpr Engine(std::uint32_t number) noexcept : number_(number) {}
+    explicit constexpr Numbered(std::uint32_t number) noexcept : number_(number) {}
     constexpr std::uint32_t number() const noexcept { return number_; }
+    friend constexpr bool operator==(Numbered a, Numbered b) noexcept { return a.number_ == b.number_; }
+    friend constexpr bool operator!=(Numbered a, Numbered b) noexcept { return a.number_ != b.number_; }
+    friend constexpr bool operator<(Numbered a, Numbered b) noexcept { return a.number_ < b.number_; }
+    friend constexpr bool operator<=(Numbered a, Numbered b) noexcept { return a.number_ <= b.number_; }
+    friend constexpr bool operator>(Numbered a, Numbered b) noexcept { return a.number_ > b.number_; }
+    friend constexpr bool operator>=(Numbered a, Numbered b) noexcept { return a.number_ >= b.number_; }
 
 private:
     std::uint32_t number_;
+};
+
+} // namespace inner
+
+// A packet engine, the hardware; they count from 0.
+class Engine : public inner::Numbered<Engine> {
+public:
+    using Numbered::Numbered;
 };
 
 // A line of the plan for one block; they count from 0. Which engine runs it changes from block to block.
-class Row {
+class Row : public inner::Numbered<Row> {
 public:
-    explicit constexpr Row(std::uint32_t number) noexcept : number_(number) {}
-    constexpr std::uint32_t number() const noexcept { return number_; }
-
-private:
-    std::uint32_t number_;
+    using Numbered::Numbered;
 };
-
-constexpr bool operator==(Engine a, Engine b) noexcept { return a.number() == b.number(); }
-constexpr bool operator!=(Engine a, Engine b) noexcept { return a.number() != b.number(); }
-constexpr bool operator<(Engine a, Engine b) noexcept { return a.number() < b.number(); }
-constexpr bool operator<=(Engine a, Engine b) noexcept { return a.number() <= b.number(); }
-constexpr bool operator>(Engine a, Engine b) noexcept { return a.number() > b.number(); }
-constexpr bool operator>=(Engine a, Engine b) noexcept { return a.number() >= b.number(); }
-
-constexpr bool operator==(Row a, Row b) noexcept { return a.number() == b.number(); }
-constexpr bool operator!=(Row a, Row b) noexcept { return a.number() != b.number(); }
-constexpr bool operator<(Row a, Row b) noexcept { return a.number() < b.number(); }
-constexpr bool operator<=(Row a, Row b) noexcept { return a.number() <= b.number(); }
-constexpr bool operator>(Row a, Row b) noexcept { return a.number() > b.number(); }
-constexpr bool operator>=(Row a, Row b) noexcept { return a.number() >= b.number(); }
 
 // A duty: `service` ticks in each period of `period` ticks.
 struct Duty {
@@ -79,6 +78,26 @@ constexpr bool operator==(const Reading &a, const Reading &b) noexcept {
     return a.block_length == b.block_length && a.engines == b.engines && a.duties == b.duties && a.runs == b.runs;
 }
 constexpr bool operator!=(const Reading &a, const Reading &b) noexcept { return !(a == b); }
+
+// A stretch of units on one row, given to one duty.
+struct Run {
+    Row row;
+    std::uint32_t duty, first, length;
+};
+
+constexpr bool operator==(const Run &a, const Run &b) noexcept {
+    return a.row == b.row && a.duty == b.duty && a.first == b.first && a.length == b.length;
+}
+constexpr bool operator!=(const Run &a, const Run &b) noexcept { return !(a == b); }
+
+// Rows that move together: from block to block the engines of a chain pass its rows on. A row alone is a chain of length 1 and stays.
+struct Chain {
+    Row first;
+    std::uint32_t length;
+};
+
+constexpr bool operator==(const Chain &a, const Chain &b) noexcept { return a.first == b.first && a.length == b.length; }
+constexpr bool operator!=(const Chain &a, const Chain &b) noexcept { return !(a == b); }
 
 // What an engine does at a tick: nothing, or the duty of a number.
 class Held {
@@ -232,6 +251,39 @@ public:
 
     const std::vector<std::uint8_t> &bytes() const noexcept { return bytes_; }
     Reading reading() const noexcept { return reading_; }
+
+    // What stands in the table: the engines and the duties by number, the runs by row and then by first unit.
+    std::vector<Engine> engines() const {
+        std::vector<Engine> engines;
+        for (std::uint32_t e = 0; e < reading_.engines; e++) engines.push_back(Engine(e));
+        return engines;
+    }
+    std::vector<Duty> duties() const {
+        std::vector<Duty> duties;
+        for (std::uint32_t i = 0; i < reading_.duties; i++) {
+            const tickplume_duty_t duty = tickplume_table_duty(inner::lent(bytes_), i);
+            duties.push_back(Duty{duty.service, duty.period});
+        }
+        return duties;
+    }
+    std::vector<Run> runs() const {
+        std::vector<Run> runs;
+        for (std::uint32_t k = 0; k < reading_.runs; k++) {
+            const tickplume_run_t run = tickplume_table_run(inner::lent(bytes_), k);
+            runs.push_back(Run{Row(run.row.number), run.duty, run.first, run.length});
+        }
+        return runs;
+    }
+
+    // The chains, by first row; each row is in one of them. They are read off the rows in block 1: inside a chain an engine has the row
+    // numbered one higher, and its last engine has its first row.
+    std::vector<Chain> chains() const {
+        std::vector<Chain> chains;
+        const std::vector<Row> rows = dispatcher(1).rows();
+        for (std::uint32_t e = 0; e < rows.size(); e++)
+            if (rows[e].number() <= e) chains.push_back(Chain{rows[e], e - rows[e].number() + 1});
+        return chains;
+    }
 
     // What does the engine do at the tick, and from which row? Any tick. Refusal: 18.
     Reply at(Engine engine, std::uint64_t tick) const {

@@ -1,7 +1,8 @@
-/* The C header: each typed call beside the library's own on the same input, answered and refused; what the header says of short buffers, of
- * bytes that stay, of the order of refusals and of its limits; every name and word. It is compiled as C and as C++. Ends with status 0
+/* The C header: each typed call beside the library's own on the same input, answered and refused; what is read off a table beside what it
+ * was made of; what the header says of short buffers, of bytes that stay, of the order of refusals and of its limits; every name and word. It is compiled as C and as C++. Ends with status 0
  * exactly when all is as the header says. */
 #include <stdio.h>
+#include <stdlib.h>
 #include <string.h>
 
 #include "tickplume.h"
@@ -218,12 +219,72 @@ static void compare_dispatcher(const bytes_t *bytes) {
     }
 }
 
+/* What is read off an accepted table: in block 0 engine i runs row i, so at every tick of it an engine has the duty of the run that holds
+ * the unit, and is idle where none does. */
+static void compare_lists(const bytes_t *bytes, const tickplume_reading_t reading) {
+    uint32_t units = 0, busy = 0;
+    for (uint32_t k = 0; k < reading.runs; k++) {
+        const tickplume_run_t run = tickplume_table_run(lent(bytes), k);
+        CHECK(run.length > 0 && run.row.number < reading.engines && run.duty < reading.duties);
+        for (uint32_t unit = run.first; unit < run.first + run.length; unit++, units++)
+            CHECK(tickplume_table_at(lent(bytes), tickplume_engine(run.row.number), unit).duty == run.duty);
+    }
+    for (uint32_t e = 0; e < reading.engines; e++)
+        for (uint32_t tick = 0; tick < reading.block_length; tick++)
+            busy += tickplume_table_at(lent(bytes), tickplume_engine(e), tick).duty != TICKPLUME_NONE;
+    CHECK(units == busy);
+    for (uint32_t i = reading.duties; i < 300; i++) CHECK(tickplume_table_duty(lent(bytes), i).period == 0);
+    for (uint32_t k = reading.runs; k < 300; k++) CHECK(tickplume_table_run(lent(bytes), k).length == 0);
+}
+
+/* Of any bytes, cut anywhere, nothing past their end is read: the copy has exactly as many, and a checker of memory would tell. */
+static void read_cut(const bytes_t *bytes) {
+    for (size_t length = 0; length <= bytes->length; length++) {
+        uint8_t *copy = TICKPLUME_CAST(uint8_t *, malloc(length ? length : 1));
+        tickplume_table_t cut;
+        cut.bytes = copy;
+        cut.length = length;
+        memcpy(copy, bytes->bytes, length);
+        for (uint32_t i = 0; i < 5; i++) {
+            CHECK((tickplume_table_duty(cut, i).period != 0) == (i < 3 && length >= 7 + 9 * (i + 1)));
+            CHECK((tickplume_table_run(cut, i).length != 0) == (i < 4 && length >= 34 + 11 * (i + 1)));
+        }
+        free(copy);
+    }
+}
+
+/* A table whose numbers fill all their bytes, beside the numbers that it was made of. */
+static void lists_by_hand(void) {
+    static const tickplume_duty_t duties[] = {{0x01020304, 0x05060708}, {1, 2}, {UINT32_MAX, 0x80000000}};
+    static const run_t a = {1, 2, 0x01020304, 0x05060708}, b = {255, 254, UINT32_MAX, 0x80000000}, c = {0, 0, 0, 1}, d = {3, 1, 4, 1};
+    const bytes_t bytes = by_hand(3, duties, a, b, c, d);
+    const run_t runs[] = {a, b, c, d};
+    for (uint32_t i = 0; i < 3; i++) {
+        const tickplume_duty_t duty = tickplume_table_duty(lent(&bytes), i);
+        CHECK(duty.service == duties[i].service && duty.period == duties[i].period);
+    }
+    for (uint32_t k = 0; k < 4; k++) {
+        const tickplume_run_t run = tickplume_table_run(lent(&bytes), k);
+        CHECK(run.row.number == runs[k].row && run.duty == runs[k].duty && run.first == runs[k].first && run.length == runs[k].length);
+    }
+    CHECK(tickplume_table_run(lent(&bytes), 4).row.number == TICKPLUME_NONE && tickplume_table_run(lent(&bytes), 4).duty == TICKPLUME_NONE);
+    CHECK(tickplume_table_duty(lent(&bytes), UINT32_MAX).period == 0 && tickplume_table_run(lent(&bytes), UINT32_MAX).length == 0);
+    read_cut(&bytes);
+    bytes_t other = bytes; /* records of another kind */
+    other.bytes[16] = 3, other.bytes[45] = 2;
+    CHECK(tickplume_table_duty(lent(&other), 1).period == 0 && tickplume_table_duty(lent(&other), 2).period == 0x80000000);
+    CHECK(tickplume_table_run(lent(&other), 1).length == 0 && tickplume_table_run(lent(&other), 2).length == 1);
+    other.bytes[0] = 2;
+    CHECK(tickplume_table_duty(lent(&other), 0).period == 0 && tickplume_table_run(lent(&other), 0).length == 0);
+}
+
 static void compare_table(const bytes_t *bytes, uint64_t judged) {
     uint64_t answer[4];
     CHECK(tickplume_judge(bytes->bytes, bytes->length, answer, 4) == judged);
     compare_questions(bytes);
     compare_judge_and_count(bytes);
     compare_dispatcher(bytes);
+    if (!judged) compare_lists(bytes, tickplume_table_judge(lent(bytes)));
 }
 
 /* A good table, and one for each refusal of the judge. */
@@ -570,6 +631,7 @@ int main(void) {
     words();
     numbers();
     tables();
+    lists_by_hand();
     idle();
     duty_sets();
     many_duties();

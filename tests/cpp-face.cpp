@@ -159,6 +159,27 @@ static void compare_questions(const Table &table, tickplume_table_t lent) {
     }
 }
 
+// The lists beside the set that the table was built of, and beside the rows of the first blocks.
+static void compare_lists(const Table &table, const Set &set) {
+    const std::vector<Run> runs = table.runs();
+    CHECK(table.duties() == set.duties && runs.size() == table.reading().runs && table.engines().size() == set.engines);
+    for (const Run &run : runs)
+        for (std::uint32_t unit = run.first; unit < run.first + run.length; unit++)
+            CHECK(table.at(Engine(run.row.number()), unit) == Reply(Held(run.duty), run.row));
+    std::vector<Row> rows;
+    for (const Chain &chain : table.chains())
+        for (std::uint32_t k = 0; k < chain.length; k++) rows.push_back(Row(chain.first.number() + (k + 2) % chain.length));
+    CHECK(rows == table.dispatcher(2).rows());
+}
+
+static void known_lists() {
+    const Table table = Table::build(4, {{21, 30}, {8, 20}, {5, 10}, {8, 20}, {8, 40}, {35, 50}, {12, 60}, {63, 70}});
+    CHECK((table.chains() == std::vector<Chain>{Chain{Row(0), 2}, Chain{Row(2), 2}}));
+    CHECK((table.runs()[1] == Run{Row(0), 1, 7, 3}) && (table.runs()[2] == Run{Row(1), 1, 0, 1}));
+    CHECK(table.engines()[3] == Engine(3) && (table.duties()[7] == Duty{63, 70}));
+    CHECK((Run{Row(0), 1, 2, 3} != Run{Row(1), 1, 2, 3}) && (Chain{Row(0), 1} != Chain{Row(0), 2}));
+}
+
 static void compare_dispatcher(const Table &table, tickplume_table_t lent) {
     for (std::uint64_t block : ticks) {
         tickplume_dispatcher_t told;
@@ -193,6 +214,7 @@ static void tables() {
         CHECK(table == Table::from_bytes(table.bytes()) && table == Table::from_bytes(room, built.table.length));
         compare_questions(table, built.table);
         compare_dispatcher(table, built.table);
+        compare_lists(table, set);
     }
 }
 
@@ -288,6 +310,7 @@ int main() {
     values();
     sentences();
     tables();
+    known_lists();
     plans_of_shares();
     bytes_and_nulls();
     idle();

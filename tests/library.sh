@@ -4,13 +4,7 @@
 set -u
 cd "$(dirname "$0")/.." || exit 2
 
-# need COMMAND PACKAGE: installs Debian's package if the command is not there.
-need() {
-    command -v "$1" >/dev/null && return 0
-    echo "installing $2"
-    (apt-get update && apt-get install -y "$2") >/dev/null 2>&1
-    command -v "$1" >/dev/null || { echo "$1 is not there and $2 could not be installed"; exit 1; }
-}
+. tests/need
 need gcc gcc
 need cargo cargo
 

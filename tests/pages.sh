@@ -6,7 +6,8 @@
 # follows, up to the next one or the block's end, must be all that the command prints on standard output; nothing, if nothing follows. A
 # block is one shell (sh): what a command sets, later ones of the block have. Standard error is not looked at, unless the command redirects
 # it. Blocks that do not begin with `$ ` are not run; a `$ ` inside one is a fault of the page. A fenced block of C that begins with
-# `/* NAME.c */` is that file, for the examples after it. A `git clone` is a link to this repository, and HOME a folder that is empty.
+# `/* NAME.c */` is that file, for the examples after it. A `git clone` is a link to this repository. HOME is an empty folder, which the
+# pages call /home/you.
 set -u
 cd "$(dirname "$0")/.." || exit 2
 pages=("$@")
@@ -76,6 +77,7 @@ run_block() {
             continue
         fi
         got=$(cat "$room/printed.$k" && echo .)
+        got=${got//"$room/home"//home/you}
         same "${printed[k]}" "${got%.}" || fault "$1:$((places[k] + 1 + at)): $told from: ${commands[k]}"
     done
     rm -f "$room"/printed.*

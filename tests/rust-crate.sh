@@ -12,7 +12,8 @@ fail() {
     exit 1
 }
 
-command -v cargo >/dev/null || fail "cargo is not there"
+. tests/need
+need cargo cargo
 sh scripts/native-library tickplume || exit 1
 build=$(mktemp -d)
 trap 'rm -rf "$build"' EXIT
@@ -30,6 +31,9 @@ else
     echo "cargo clippy is not installed: the lints are not checked"
 fi
 RUSTDOCFLAGS="-D warnings" in_crate doc --offline --release --no-deps
+if grep -q '^license' rust/Cargo.toml && ! ls LICEN[CS]E* COPYING* >/dev/null 2>&1; then
+    fail "rust/Cargo.toml claims a licence that the repository does not have"
+fi
 
 (cd rust && cargo run --offline --release -q --example simulator) | diff -u tests/expected/simulator - || fail "other output of simulator"
 

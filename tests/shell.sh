@@ -92,7 +92,7 @@ ends 1 'refused 6, duty 1: ' sh -c "printf '1\n1 1\n1 2\n' | ./plan"
 
 # ---- proving: a house with a stand-in for rt, whose check takes $PACE seconds for each of four crates and fails where two run at once
 
-house=$work/house
+house="$work/the house"
 mkdir -p "$house/crates" "$work/kit/docs" "$work/bin" "$work/bare" "$work/room"
 cp -r plan scripts include examples "$house/"
 printf '%s\n' '# three and a program' 'one:' 'two: one' 'three: two' 'plan: two io' 'tickplume: three' >"$house/crates.txt"
@@ -178,6 +178,13 @@ is "the library was made again though nothing changed" test "$(calls)" -eq "$was
 ends 2 'there is no library tickplum in crates' full sh scripts/native-library tickplum
 ends 2 'usage: native-library NAME' full sh scripts/native-library
 
+# where nothing may be written
+anew
+: >target
+ends 3 'the house/target may not be written' full ./plan examples/p1
+is "more than one sentence" test "$(wc -l <"$work/err")" -eq 1
+rm target
+
 # what is not proved is said in a few lines, keeps its log, and is tried again
 anew
 : >"$KIT/broken"
@@ -212,21 +219,24 @@ is "two at once disturbed one another" test "$(grep -h -v waiting "$work/first" 
 plan 1 1 1"
 is "the second proved what the first had proved" test "$(grep -c '^check plan' "$KIT/calls")" -eq 1
 
-# an interrupt, to all that a terminal would send it to: nothing goes on, no file stays, and the next one finds no lock
-for signal in INT TERM HUP; do
+# interrupted SIGNAL COMMAND..: the signal, to all that a terminal would send it to: nothing goes on, no file stays, the next finds no lock.
+interrupted() {
+    local signal=$1
+    shift
     anew
-    export PACE=5
-    PATH=$work/bin:$work/bare env --default-signal=INT setsid ./plan examples/p1 >"$work/out" 2>"$work/err" &
+    PACE=5 PATH=$work/bin:$work/bare env --default-signal=INT setsid "$@" >"$work/out" 2>"$work/err" &
     for _ in $(seq 50); do [ -d "$KIT/at-work" ] || sleep 0.1; done
     is "nothing was at work" test -d "$KIT/at-work"
     is "no temporary folder while it was at work" test "$(rooms)" -eq 1
     kill -s "$signal" -- "-$!"
     wait
-    is "after $signal something is still at work" test ! -d "$KIT/at-work"
-    is "after $signal temporary files stay" test "$(rooms)" -eq 0
-    PACE=0.01
-    ends 0 '' full ./plan examples/p1
-done
+    is "after $signal something is still at work: $*" test ! -d "$KIT/at-work"
+    is "after $signal temporary files stay: $*" test "$(rooms)" -eq 0
+    ends 0 '' full "$@"
+}
+export PACE=0.01
+for signal in INT TERM HUP; do interrupted "$signal" ./plan examples/p1; done
+interrupted INT sh scripts/native-library tickplume
 
 echo "shell: $checks checks"
 exit "$failed"
