@@ -59,7 +59,8 @@ ends 0 '' ./plan --help
 is "no help" grep -q '^usage: plan' "$work/out"
 ends 2 'there is no option --halp; see ./plan --help' ./plan --halp
 ends 2 'one file at a time' ./plan examples/p1 examples/p8
-ends 2 'there is no file nowhere' ./plan nowhere
+ends 2 "there is no file 'nowhere'" ./plan nowhere
+ends 2 "there is no file ''" ./plan ''
 ends 2 'examples is a folder' ./plan examples
 ends 2 'standard input is a folder' sh -c './plan < examples'
 ends 2 'standard input is closed' sh -c './plan <&-'
@@ -168,6 +169,13 @@ echo kit-2 >"$KIT/KIT-ID"
 ends 0 '' full ./plan examples/p1
 is "not proved again by another kit" test "$(calls)" -eq 4
 
+# a program that does not come to its end
+printf '#!/bin/sh\n' >target/bin/plan
+ends 3 'the program printed nothing' full ./plan examples/p1
+printf '#!/bin/sh\necho plan 1 1 1\nkill -9 $$\n' >target/bin/plan
+ends 3 'the program could not be run' full ./plan examples/p1
+is "something on standard output" test ! -s "$work/out"
+
 # the library: quiet, once
 ends 0 '' full sh scripts/native-library tickplume
 is "something on standard output" test ! -s "$work/out"
@@ -210,12 +218,12 @@ is "a person at a terminal is not told what is wanted" grep -q "reading the duty
 
 # three at once: each waits for the one before, and says so
 anew
-export PACE=0.1
+export PACE=0.4
 for name in first second; do full ./plan examples/p1 >"$work/$name" 2>&1 & done
 sleep 0.2
 ends 0 'waiting for it' full sh scripts/native-library tickplume
 wait
-is "two at once disturbed one another" test "$(grep -h -v waiting "$work/first" "$work/second")" = "plan 1 1 1
+is "two at once disturbed one another" test "$(grep -h -v -e waiting -e 'proving, once' "$work/first" "$work/second")" = "plan 1 1 1
 plan 1 1 1"
 is "the second proved what the first had proved" test "$(grep -c '^check plan' "$KIT/calls")" -eq 1
 
