@@ -53,6 +53,27 @@ static int ask(tickplume_table_t table, uint32_t engines) {
     return 0;
 }
 
+/* The same for a simulator that needs every engine at every tick: the rows once a block, then the runs of each engine's row. Nothing is
+ * judged inside a block. A run that the direct question did not agree with would be told. */
+static int run_blocks(tickplume_table_t table, tickplume_reading_t reading) {
+    tickplume_dispatcher_t dispatcher;
+    tickplume_row_t rows[TICKPLUME_MOST_ENGINES];
+    for (uint64_t block = 0; block < 3; block++) {
+        tickplume_refusal_t refusal = tickplume_dispatcher_start(&dispatcher, table, block);
+        if (refusal.kind) return refused("start", refusal);
+        tickplume_dispatcher_rows(&dispatcher, rows);
+        for (uint32_t engine = 0; engine < reading.engines; engine++) {
+            for (uint32_t k = 0; k < reading.runs; k++) {
+                const tickplume_run_t run = tickplume_table_run(table, k);
+                if (run.row.number != rows[engine].number) continue;
+                for (uint64_t tick = block * reading.block_length + run.first, end = tick + run.length; tick < end; tick++)
+                    if (tickplume_table_at(table, tickplume_engine(engine), tick).duty != run.duty) return printf("another duty\n");
+            }
+        }
+    }
+    return 0;
+}
+
 int main(void) {
     /* Four duties of 3 ticks in every 4, on three engines. Two of them are split over two rows, so the rows go round all engines. */
     const tickplume_duty_t duties[] = {{3, 4}, {3, 4}, {3, 4}, {3, 4}};
@@ -65,7 +86,7 @@ int main(void) {
     printf("block length %" PRIu32 ", engines %" PRIu32 ", ", reading.block_length, reading.engines);
     printf("duties %" PRIu32 ", runs %" PRIu32 "\n", reading.duties, reading.runs);
 
-    if (dispatch(built.table, reading.engines) || ask(built.table, reading.engines)) return 1;
+    if (dispatch(built.table, reading.engines) || ask(built.table, reading.engines) || run_blocks(built.table, reading)) return 1;
 
     tickplume_loads_t loads = tickplume_table_loads(built.table, TICKPLUME_MOST_BLOCKS);
     if (loads.refusal.kind) return refused("count", loads.refusal);

@@ -40,6 +40,23 @@ static void ask(const Table &table) {
     }
 }
 
+// The same for a simulator that needs every engine at every tick: the rows once a block, then the runs of each engine's row. Nothing is
+// judged inside a block. A run that the direct question did not agree with would be told.
+static void run_blocks(const Table &table) {
+    const std::vector<tickplume::Run> runs = table.runs();
+    for (std::uint64_t block = 0; block < 3; block++) {
+        const std::vector<Row> rows = table.dispatcher(block).rows();
+        for (const Engine engine : table.engines()) {
+            for (const tickplume::Run &run : runs) {
+                if (run.row != rows[engine.number()]) continue;
+                const std::uint64_t first = block * table.reading().block_length + run.first;
+                for (std::uint64_t tick = first; tick < first + run.length; tick++)
+                    if (table.at(engine, tick).duty() != run.duty) std::cout << "another duty\n";
+            }
+        }
+    }
+}
+
 // A call that is refused: its number and place, and on std::cerr what they mean.
 template <class Call>
 static void refused(const char *name, Call call) {
@@ -60,6 +77,7 @@ int main() {
         std::cout << ", duties " << reading.duties << ", runs " << reading.runs << '\n';
         dispatch(table);
         ask(table);
+        run_blocks(table);
         std::cout << "loads in " << TICKPLUME_MOST_BLOCKS << " blocks: " << table.loads(TICKPLUME_MOST_BLOCKS) << '\n';
 
         // Rows that are not those of their block are refused, and so is an engine that is not there.

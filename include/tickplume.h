@@ -319,8 +319,8 @@ TICKPLUME_INLINE tickplume_duty_t tickplume_table_duty(tickplume_table_t table, 
 }
 
 /* Run `number` of an accepted table, read off its bytes: they stand by row, then by first unit. Its length is 0, and row and duty are
- * TICKPLUME_NONE, where there is no such run. Nothing is judged. With the rows that a dispatcher tells once a block, the runs tell what
- * every engine does at every tick of it. */
+ * TICKPLUME_NONE, where there is no such run. Nothing is judged. With tickplume_dispatcher_rows, once a
+ * block, the runs tell what every engine does at every tick of it. */
 TICKPLUME_INLINE tickplume_run_t tickplume_table_run(tickplume_table_t table, uint32_t number) {
     tickplume_run_t run = {{TICKPLUME_NONE}, TICKPLUME_NONE, 0, 0};
     const uint8_t *head = tickplume_record(table, 1, 7, 0), *record = NULL;
@@ -369,6 +369,13 @@ TICKPLUME_INLINE tickplume_refusal_t tickplume_dispatcher_start(tickplume_dispat
 /* The dispatcher's block. */
 TICKPLUME_INLINE uint64_t tickplume_dispatcher_block(const tickplume_dispatcher_t *dispatcher) {
     return dispatcher->state[0];
+}
+
+/* The rows of all engines in the dispatcher's block into a list of TICKPLUME_MOST_ENGINES: rows[e] is engine e's, row 0 past the last engine.
+ * They are taken as they stand: nothing is judged. */
+TICKPLUME_INLINE void tickplume_dispatcher_rows(const tickplume_dispatcher_t *dispatcher, tickplume_row_t *rows) {
+    size_t e;
+    for (e = 0; e < TICKPLUME_MOST_ENGINES; e++) rows[e].number = tickplume_entry(dispatcher->state[1 + e]);
 }
 
 /* The row that the engine runs in the dispatcher's block.

@@ -190,6 +190,23 @@ static void compare_rows(const bytes_t *bytes, const tickplume_dispatcher_t *dis
     }
 }
 
+/* All rows at once: each engine's, 0 past the last; an entry that is no row is none. */
+static void compare_all_rows(const bytes_t *bytes, const tickplume_dispatcher_t *dispatcher) {
+    tickplume_row_t rows[TICKPLUME_MOST_ENGINES + 1];
+    tickplume_dispatcher_t wide = *dispatcher;
+    memset(rows, PAINT, sizeof rows);
+    tickplume_dispatcher_rows(dispatcher, rows);
+    for (uint32_t e = 0; e < TICKPLUME_MOST_ENGINES; e++) {
+        const tickplume_row_reply_t reply = tickplume_dispatcher_row(dispatcher, lent(bytes), tickplume_engine(e));
+        if (!reply.refusal.kind) CHECK(rows[e].number == reply.row.number);
+        if (reply.refusal.kind == TICKPLUME_REFUSED_NO_SUCH_ENGINE) CHECK(rows[e].number == 0);
+    }
+    CHECK(painted(&rows[TICKPLUME_MOST_ENGINES], sizeof rows[0]));
+    wide.state[32] = UINT64_MAX - 1;
+    tickplume_dispatcher_rows(&wide, rows);
+    CHECK(rows[31].number == TICKPLUME_NONE);
+}
+
 /* A step from a state that is right, and from one that is not: refused, it stays. */
 static void compare_step(const bytes_t *bytes, tickplume_dispatcher_t dispatcher) {
     const tickplume_dispatcher_t before = dispatcher;
@@ -212,6 +229,7 @@ static void compare_dispatcher(const bytes_t *bytes) {
         CHECK(memcmp(dispatcher.state, state, sizeof state) == 0);
         CHECK(word ? painted(&dispatcher, sizeof dispatcher) : tickplume_dispatcher_block(&dispatcher) == ticks[t]);
         compare_rows(bytes, &dispatcher);
+        compare_all_rows(bytes, &dispatcher);
         compare_step(bytes, dispatcher);
         dispatcher.state[1 + t % 32] += 1;
         compare_rows(bytes, &dispatcher);

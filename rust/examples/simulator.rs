@@ -31,6 +31,20 @@ fn main() -> Result<(), Refusal> {
         println!();
     }
 
+    // The same for a simulator that needs every engine at every tick: the rows once a block, then the runs of each
+    // engine's row. Nothing is judged inside a block. The direct question agrees.
+    let length = u64::from(table.block_length());
+    for block in 0..3 {
+        for (engine, row) in table.rows_in(block)? {
+            for run in table.runs().iter().filter(|run| run.row == row) {
+                for unit in run.units() {
+                    let tick = block * length + u64::from(unit);
+                    assert_eq!(table.at(engine, tick)?.held, Held::Duty(run.duty));
+                }
+            }
+        }
+    }
+
     let blocks = 1_000_000_000_000;
     println!("loads in {blocks} blocks: {}", table.loads(blocks)?);
 
