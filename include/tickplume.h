@@ -205,7 +205,7 @@ uint64_t tickplume_share_at(uint32_t engines, const uint32_t *services, size_t s
 typedef struct tickplume_engine_t { uint32_t number; } tickplume_engine_t; /* the hardware, from 0 */
 typedef struct tickplume_row_t { uint32_t number; } tickplume_row_t;       /* a line of the plan, from 0 */
 typedef struct tickplume_duty_t { uint32_t service, period; } tickplume_duty_t;
-typedef struct tickplume_run_t { tickplume_row_t row; uint32_t duty, first, length; } tickplume_run_t; /* units first to first + length - 1 */
+typedef struct tickplume_run_t { tickplume_row_t row; uint32_t duty, first, length; } tickplume_run_t; /* `length` units, from `first` on */
 typedef struct tickplume_table_t { const uint8_t *bytes; size_t length; } tickplume_table_t; /* the caller's bytes, not a copy */
 typedef struct tickplume_refusal_t { tickplume_kind_t kind; uint64_t place; } tickplume_refusal_t;
 
@@ -371,8 +371,8 @@ TICKPLUME_INLINE uint64_t tickplume_dispatcher_block(const tickplume_dispatcher_
     return dispatcher->state[0];
 }
 
-/* The rows of all engines in the dispatcher's block into a list of TICKPLUME_MOST_ENGINES: rows[e] is engine e's, row 0 past the last engine.
- * They are taken as they stand: nothing is judged. */
+/* The rows of all engines in the dispatcher's block, into a list of TICKPLUME_MOST_ENGINES: rows[e] is engine e's, and row 0 past the last
+ * engine. They are taken as they stand: nothing is judged. */
 TICKPLUME_INLINE void tickplume_dispatcher_rows(const tickplume_dispatcher_t *dispatcher, tickplume_row_t *rows) {
     size_t e;
     for (e = 0; e < TICKPLUME_MOST_ENGINES; e++) rows[e].number = tickplume_entry(dispatcher->state[1 + e]);

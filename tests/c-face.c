@@ -1,6 +1,6 @@
 /* The C header: each typed call beside the library's own on the same input, answered and refused; what is read off a table beside what it
- * was made of; what the header says of short buffers, of bytes that stay, of the order of refusals and of its limits; every name and word. It is compiled as C and as C++. Ends with status 0
- * exactly when all is as the header says. */
+ * was made of; what the header says of short buffers, of bytes that stay, of the order of refusals and of its limits; every name and word.
+ * It is compiled as C and as C++. Ends with status 0 exactly when all is as the header says. */
 #include <stdio.h>
 #include <stdlib.h>
 #include <string.h>
