@@ -63,7 +63,9 @@ ends 2 "there is no file 'nowhere'" ./plan nowhere
 ends 2 "there is no file ''" ./plan ''
 ends 2 'examples is a folder' ./plan examples
 ends 2 'standard input is a folder' sh -c './plan < examples'
-ends 2 'standard input is closed' sh -c './plan <&-'
+ends 2 'the input could not be read' sh -c './plan <&-'
+ends 2 'the input could not be read' sh -c "./plan 0>'$work/out'"
+ends 0 '' ./plan -- examples/p1
 
 for lost in '> /dev/full' '>&-'; do
     ends 4 'plan: the output could not be written' sh -c "./plan examples/p1 $lost"
@@ -176,6 +178,18 @@ printf '#!/bin/sh\necho plan 1 1 1\nkill -9 $$\n' >target/bin/plan
 ends 3 'the program could not be run' full ./plan examples/p1
 is "something on standard output" test ! -s "$work/out"
 
+# a read that fails after a part that is well written
+cat >"$work/bin/head" <<HEAD
+#!/bin/sh
+[ "\$1" != -c ] || { printf '2\n2 3\n' && exit 1; }
+exec $(type -P head) "\$@"
+HEAD
+chmod +x "$work/bin/head"
+printf '#!/bin/sh\ncat\n' >target/bin/plan
+ends 2 'the input could not be read' full ./plan examples/p1
+is "a plan of a part" test ! -s "$work/out"
+rm "$work/bin/head"
+
 # the library: quiet, once
 ends 0 '' full sh scripts/native-library tickplume
 is "something on standard output" test ! -s "$work/out"
@@ -183,7 +197,9 @@ is "no archive" test -s target/native/libtickplume.a
 was=$(calls)
 ends 0 '' full sh scripts/native-library tickplume
 is "the library was made again though nothing changed" test "$(calls)" -eq "$was"
-ends 2 'there is no library tickplum in crates' full sh scripts/native-library tickplum
+ends 2 "there is no library 'tickplum' in crates.txt" full sh scripts/native-library tickplum
+ends 2 "there is no library 'two/../two' in crates.txt" full sh scripts/native-library two/../two
+ends 0 '' full sh scripts/native-library --help
 ends 2 'usage: native-library NAME' full sh scripts/native-library
 
 # where nothing may be written
