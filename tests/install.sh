@@ -11,6 +11,7 @@ export TMPDIR=$work/tmp LC_ALL=C
 unset CC PKG_CONFIG_PATH
 version=$(sed -n 's/^#define TICKPLUME_VERSION "\(.*\)"$/\1/p' include/tickplume.h)
 major=${version%%.*}
+soname=libtickplume.so.${version%.*} # before 1.0
 
 fail() {
     echo "$1"
@@ -25,7 +26,7 @@ same() {
 # needs PROGRAM yes|no: whether it needs the shared library when it is run.
 needs() {
     local found=no
-    ! readelf -d "$1" | grep -q "NEEDED.*libtickplume\.so\.$major\]" || found=yes
+    ! readelf -d "$1" | grep -q "NEEDED.*\[$soname\]" || found=yes
     [ "$found" = "$2" ] || fail "${1##*/}: needs the shared library: $found, not $2"
 }
 
@@ -52,14 +53,22 @@ by_the_line() {
     cp examples/simulator.c "$work/user/program.c"
     (cd "$work/user" && eval "$(tail -n 1 "$work/said")") || fail "the line that install prints fails: $(tail -n 1 "$work/said")"
     same "$work/user/program"
-    needs "$work/user/program" yes
+    needs "$work/user/program" no
+}
+
+# The same for a folder whose name means much to a shell and to a linker.
+odd_place() {
+    local odd="$work/it's \$(touch \"run\") \\ a,b:c;\`d\`"
+    scripts/install "$odd" >"$work/said" || fail "install into an odd folder failed"
+    by_the_line
+    if [ -e "$work/user/run" ] || [ -e run ]; then fail "the line runs what stands in the folder's name"; fi
+    rm -rf "$odd"
 }
 
 by_pkg_config() {
     local flags lib=$work/second\ place/lib
     command -v pkg-config >/dev/null || { echo "skipped: pkg-config is not installed"; return; }
-    by_the_line
-    mv "$work/first place" "$work/second place" && cd "$work/user" || exit 1
+    cd "$work/user" || exit 1
     export PKG_CONFIG_PATH=$lib/pkgconfig
     [ "$(pkg-config --modversion tickplume)" = "$version" ] || fail "pkg-config tells another version"
     eval "flags=($(pkg-config --cflags --libs tickplume))"
@@ -113,9 +122,9 @@ CMAKE
 # Over an older version: its library goes, and every link leads to this one's.
 over_an_older() {
     local place=$work/second\ place
-    mv "$place/lib/libtickplume.so.$version" "$place/lib/libtickplume.so.$major.0.0"
-    ln -sf "libtickplume.so.$major.0.0" "$place/lib/libtickplume.so.$major"
-    ln -sf "libtickplume.so.$major.0.0" "$place/lib/libtickplume.so"
+    mv "$place/lib/libtickplume.so.$version" "$place/lib/$soname.99"
+    ln -sf "$soname.99" "$place/lib/$soname"
+    ln -sf "$soname.99" "$place/lib/libtickplume.so"
     for file in include/tickplume.h include/tickplume.hpp lib/libtickplume.a lib/pkgconfig/tickplume.pc \
         lib/cmake/tickplume/tickplume-config.cmake; do
         echo old >"$place/$file"
@@ -125,9 +134,9 @@ over_an_older() {
     cmp target/native/libtickplume.a "$place/lib/libtickplume.a" || exit 1
     grep -qx "Version: $version" "$place/lib/pkgconfig/tickplume.pc" || fail "an old file for pkg-config"
     grep -q "^# Tickplume $version:" "$place/lib/cmake/tickplume/tickplume-config.cmake" || fail "an old file for CMake"
-    [ "$(cd "$place/lib" && echo libtickplume.*)" = "libtickplume.a libtickplume.so libtickplume.so.$major libtickplume.so.$version" ] ||
+    [ "$(cd "$place/lib" && echo libtickplume.*)" = "libtickplume.a libtickplume.so $soname libtickplume.so.$version" ] ||
         fail "libraries: $(ls "$place/lib")"
-    for link in libtickplume.so "libtickplume.so.$major"; do
+    for link in libtickplume.so "$soname"; do
         [ "$(readlink -f "$place/lib/$link")" = "$(readlink -f "$place")/lib/libtickplume.so.$version" ] || fail "$link leads elsewhere"
     done
     no_leftovers "$place"
@@ -163,6 +172,8 @@ errors() {
     refuses 1 "$work/none"
     scripts/install --help >"$work/out" || fail "--help fails"
     grep -q '^usage: install PREFIX$' "$work/out" || fail "--help has no usage"
+    scripts/install "$work/second place" >/dev/full 2>"$work/err" && fail "lost output is not told"
+    { [ "$(wc -l <"$work/err")" -eq 1 ] && grep -q 'it is installed in .* could not be written' "$work/err"; } || fail "says $(cat "$work/err")"
 }
 
 # A rename that fails leaves what was there; so does an end by a signal while the compiler runs. Neither leaves anything half done.
@@ -187,9 +198,11 @@ cut_short() {
 }
 
 first_run
+by_the_line
+mv "$work/first place" "$work/second place"
 by_pkg_config
-[ -d "$work/second place" ] || mv "$work/first place" "$work/second place"
 by_cmake
+odd_place
 over_an_older
 errors
 cut_short
