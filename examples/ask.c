@@ -293,7 +293,7 @@ static int run(char **given, int count, const char *lent) {
 
 int main(int argc, char **argv) {
     int status = 0, skip = argc > 1 && strcmp(argv[1], "-a") == 0 ? 3 : 1;
-    if (argc == 2 && strcmp(argv[1], "--help") == 0)
+    if (argc == 2 && (strcmp(argv[1], "--help") == 0 || strcmp(argv[1], "-h") == 0))
         help();
     else if (argc <= skip)
         wrong("the name of a call is wanted after this; ask --help lists them", argv[argc - 1]);

@@ -53,8 +53,8 @@ static int ask(tickplume_table_t table, uint32_t engines) {
     return 0;
 }
 
-/* The same for a simulator that needs every engine at every tick: the rows once a block, then the runs of each engine's row. Nothing is
- * judged inside a block. A run that the direct question did not agree with would be told. */
+/* The same for a simulator that needs every engine at every tick: the rows once a block, then the runs of each engine's row. Only the start
+ * of a block judges the table. The direct question in the innermost loop is there to show that it agrees, and may be left out. */
 static int run_blocks(tickplume_table_t table, tickplume_reading_t reading) {
     tickplume_dispatcher_t dispatcher;
     tickplume_row_t rows[TICKPLUME_MOST_ENGINES];

@@ -40,8 +40,8 @@ static void ask(const Table &table) {
     }
 }
 
-// The same for a simulator that needs every engine at every tick: the rows once a block, then the runs of each engine's row. Nothing is
-// judged inside a block. A run that the direct question did not agree with would be told.
+// The same for a simulator that needs every engine at every tick: the rows once a block, then the runs of each engine's row. Only the start
+// of a block judges the table. The direct question in the innermost loop is there to show that it agrees, and may be left out.
 static void run_blocks(const Table &table) {
     const std::vector<tickplume::Run> runs = table.runs();
     for (std::uint64_t block = 0; block < 3; block++) {

@@ -6,7 +6,7 @@
  *
  * This header has the calls twice. Part 1 is what the library exports: numbers and lists of numbers. Part 2 is the same calls with types,
  * inline: an engine and a row are structs that C keeps apart, and each answer is a struct of its own. Programs are meant to use part 2;
- * part 1 is for other languages' bindings. C++ has tickplume.hpp besides.
+ * part 1 is for other languages' bindings. It is for C99 and C++11 and later; C++ has tickplume.hpp besides.
  *
  * What holds for every call:
  * - It takes whatever numbers and bytes arrive, ends, and answers or refuses. A refused call changes no byte of the caller's. Numbers
@@ -17,7 +17,7 @@
  * - Threads: no call keeps anything for the next one, so any number may run at once, on buffers that no other call is writing.
  * - Heap: none is used. From outside the library wants memcpy and memset and nothing else.
  * - Stack: below 7 KiB as measured on Arm, below 8 KiB through part 2; the library's tests fail at 16 KiB.
- * - A table is judged each time that it is passed, which is most of such a call's time; it grows with the square of the table's runs.
+ * - A call that takes a table and may refuse judges it each time, which is most of its time; it grows with the square of the runs.
  */
 #ifndef TICKPLUME_H
 #define TICKPLUME_H
@@ -373,7 +373,7 @@ TICKPLUME_INLINE uint64_t tickplume_dispatcher_block(const tickplume_dispatcher_
 
 /* The rows of all engines in the dispatcher's block, into a list of TICKPLUME_MOST_ENGINES: rows[e] is engine e's, and row 0 past the last
  * engine. They are taken as they stand: nothing is judged. */
-TICKPLUME_INLINE void tickplume_dispatcher_rows(const tickplume_dispatcher_t *dispatcher, tickplume_row_t *rows) {
+TICKPLUME_INLINE void tickplume_dispatcher_rows(const tickplume_dispatcher_t *dispatcher, tickplume_row_t rows[TICKPLUME_MOST_ENGINES]) {
     size_t e;
     for (e = 0; e < TICKPLUME_MOST_ENGINES; e++) rows[e].number = tickplume_entry(dispatcher->state[1 + e]);
 }

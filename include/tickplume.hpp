@@ -225,7 +225,7 @@ private:
     tickplume_dispatcher_t dispatcher_;
 };
 
-// An accepted table. Every call judges its bytes anew.
+// An accepted table. at(), loads() and dispatcher() judge its bytes anew each time; the lists are only read off them.
 class Table {
 public:
     // The plan that SA1 makes of the duties, on so many engines. Refusals: 1, 3 to 7.

@@ -32,7 +32,8 @@ fn main() -> Result<(), Refusal> {
     }
 
     // The same for a simulator that needs every engine at every tick: the rows once a block, then the runs of each
-    // engine's row. Nothing is judged inside a block. The direct question agrees.
+    // engine's row. Only the start of a block judges the table. The direct question in the innermost loop is there to
+    // show that it agrees, and may be left out.
     let length = u64::from(table.block_length());
     for block in 0..3 {
         for (engine, row) in table.rows_in(block)? {

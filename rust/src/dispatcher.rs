@@ -18,7 +18,7 @@ use crate::{calls, Engine, Refusal, Row, Table, MOST_ENGINES};
 /// # Ok::<(), tickplume::Refusal>(())
 /// ```
 #[derive(Clone, Copy, Debug, PartialEq, Eq, Hash)]
-#[must_use = "`next` hands the next state back and leaves this one as it is"]
+#[must_use = "a dispatcher does nothing by itself, and `next` hands another one back"]
 pub struct Dispatcher {
     state: [u64; calls::STATE],
 }

@@ -158,21 +158,21 @@ impl Chain {
 /// `2 in every 3`.
 impl fmt::Display for Duty {
     fn fmt(&self, f: &mut fmt::Formatter<'_>) -> fmt::Result {
-        write!(f, "{} in every {}", self.service, self.period)
+        f.pad(&format!("{} in every {}", self.service, self.period))
     }
 }
 
 /// `engine 1`.
 impl fmt::Display for Engine {
     fn fmt(&self, f: &mut fmt::Formatter<'_>) -> fmt::Result {
-        write!(f, "engine {}", self.0)
+        f.pad(&format!("engine {}", self.0))
     }
 }
 
 /// `row 1`.
 impl fmt::Display for Row {
     fn fmt(&self, f: &mut fmt::Formatter<'_>) -> fmt::Result {
-        write!(f, "row {}", self.0)
+        f.pad(&format!("row {}", self.0))
     }
 }
 
@@ -180,8 +180,8 @@ impl fmt::Display for Row {
 impl fmt::Display for Held {
     fn fmt(&self, f: &mut fmt::Formatter<'_>) -> fmt::Result {
         match self {
-            Held::Idle => f.write_str("idle"),
-            Held::Duty(number) => write!(f, "duty {number}"),
+            Held::Idle => f.pad("idle"),
+            Held::Duty(number) => f.pad(&format!("duty {number}")),
         }
     }
 }
@@ -189,7 +189,7 @@ impl fmt::Display for Held {
 /// `duty 2 on row 1`, or `idle on row 1`.
 impl fmt::Display for Reply {
     fn fmt(&self, f: &mut fmt::Formatter<'_>) -> fmt::Result {
-        write!(f, "{} on {}", self.held, self.row)
+        f.pad(&format!("{} on {}", self.held, self.row))
     }
 }
 

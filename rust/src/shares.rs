@@ -62,7 +62,7 @@ pub struct Shares {
 }
 
 impl Shares {
-    /// The plan that SA2 makes of the duties, on so many engines. Refusals 1 to 5, 22, 7 and 23.
+    /// The plan that SA2 makes of the duties, on so many engines. Refusals 1, 3 to 5, 22, 7 and 23.
     pub fn build(engines: u32, duties: &[Duty]) -> Result<Shares, Refusal> {
         let (services, periods) = calls::lists(duties);
         let mut allotments = vec![0; entries_needed(engines, &services, &periods)?];

@@ -144,6 +144,7 @@ fn what_is_printed() {
     same(&planned("examples/p1").reading(), "block length 3, engines 2, duties 3, runs 4");
     same(&Run { row: Row(0), duty: 1, first: 2, length: 3 }, "run 0 1 2 3");
     same(&Chain { first: Row(2), length: 5 }, "chain 2 5");
+    assert_eq!(format!("{:<8}|{:>6}|{:>5}", Engine(1), Row(1), Held::Idle), "engine 1| row 1| idle");
     same(&ShareReading { entries: 36, block_length: 10, blocks: 6 }, "block length 10, blocks 6, entries 36");
 }
 
