@@ -90,17 +90,17 @@ static void say(const char *name, uint32_t engines, const tickplume_duty_t *set,
 int main(void) {
     if (table_3()) return 1;
 
-    /* The smallest set for which SA2's steps give a duty fewer than 0 units: 1 0 0, then 0 1 0, then 1 -1 1. Its shares' parts that are not
+    /* A small set (docs/SHARES.md) for which SA2's steps give a duty fewer than 0 units: 1 0 0, then 0 1 0, then 1 -1 1. Its shares' parts that are not
      * whole add up to 1, which the paper's theorem 3.4 asks for. With the duties in another order there is a plan. */
     const tickplume_duty_t below[] = {{1, 2}, {1, 6}, {1, 3}}, other_order[] = {{1, 2}, {1, 3}, {1, 6}};
     say("a duty below 0", 1, below, 3);
     say("in another order", 1, other_order, 3);
 
-    /* The smallest in which a block is too full and no duty is below 0. */
+    /* One in which a block is too full and no duty is below 0. */
     const tickplume_duty_t too_full[] = {{2, 3}, {2, 3}, {3, 4}, {11, 12}};
     say("a block too full", 3, too_full, 4);
 
-    /* The smallest in which each duty needs at most T - 1 units of a block, which the paper's theorem 3.3 asks for; it meets theorem 3.4
+    /* One in which each duty needs at most T - 1 units of a block, which the paper's theorem 3.3 asks for; it meets theorem 3.4
      * too. */
     const tickplume_duty_t theorems[] = {{3, 6}, {1, 18}, {4, 9}};
     say("theorems 3.3 and 3.4", 1, theorems, 3);
