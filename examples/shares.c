@@ -90,8 +90,8 @@ static void say(const char *name, uint32_t engines, const tickplume_duty_t *set,
 int main(void) {
     if (table_3()) return 1;
 
-    /* A small set (docs/SHARES.md) for which SA2's steps give a duty fewer than 0 units: 1 0 0, then 0 1 0, then 1 -1 1. Its shares' parts that are not
-     * whole add up to 1, which the paper's theorem 3.4 asks for. With the duties in another order there is a plan. */
+    /* A small set (docs/SHARES.md) for which SA2's steps give a duty fewer than 0 units: 1 0 0, then 0 1 0, then 1 -1 1. Its shares' parts
+     * that are not whole add up to 1, which the paper's theorem 3.4 asks for. With the duties in another order there is a plan. */
     const tickplume_duty_t below[] = {{1, 2}, {1, 6}, {1, 3}}, other_order[] = {{1, 2}, {1, 3}, {1, 6}};
     say("a duty below 0", 1, below, 3);
     say("in another order", 1, other_order, 3);
