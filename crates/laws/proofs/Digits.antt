@@ -4,7 +4,8 @@
 use Prim.Native.Nat.{ℕ, zero, suc, _+_, _*_, _-_, _/_, _%_, _^_, _≤_, _<_}
 use mathlib.Core.Path.{_≡_, refl, ap, _∙_}
 use mathlib.Core.List.{List, [], _∷_, _++_}
-use native.Mathlib.Nat.{not-suc-le-zero, le-of-suc-le-suc, add-assoc, pow-suc, mod-lt, mod-eq-of-lt, div-lt-iff-lt-mul, add-mul-mod-self-left}
+use native.Mathlib.Nat.{not-suc-le-zero, le-of-suc-le-suc, add-assoc, pow-suc, mod-lt, mod-eq-of-lt, div-lt-iff-lt-mul}
+use native.Mathlib.Nat.{add-mul-mod-self-left}
 use native.Mathlib.Numerals.{add-one}
 use native.Mathlib.Omega.{arith}
 use lib.ListN.{length, getD, take, drop, List·getD-eq-default, List·getD-append}
@@ -49,14 +50,20 @@ pub numAt-digits : (k v : ℕ) (rest : List ℕ) → v < 256 ^ k → numAt k (di
 unfolding digits numAt
 numAt-digits zero v rest h = omega arith
 numAt-digits (suc k) v rest h =
-    omega (arith, numAt-after k (v % 256 ∷ []) (digits k (v / 256) ++ rest) 0, numAt-digits k (v / 256) rest (quotient-below 256 k v (omega arith) h))
+    omega (
+      arith,
+      numAt-after k (v % 256 ∷ []) (digits k (v / 256) ++ rest) 0,
+      numAt-digits k (v / 256) rest
+          (quotient-below 256 k v (omega arith) h),
+    )
 
 -- read and written again
 pub digits-numAt : (k : ℕ) (b : List ℕ) (at : ℕ) → AreBytes b → at + k ≤ length b → digits k (numAt k b at) ≡ take k (drop at b)
 unfolding digits numAt
 digits-numAt zero b at h l = refl
 digits-numAt (suc k) b at h l =
-    let low : (getD b at 0 + 256 * numAt k b (at + 1)) % 256 ≡ getD b at 0 = add-mul-mod-self-left (getD b at 0) 256 (numAt k b (at + 1)) ∙ mod-eq-of-lt (byte-below b h at) in
+    let low : (getD b at 0 + 256 * numAt k b (at + 1)) % 256 ≡ getD b at 0 =
+    add-mul-mod-self-left (getD b at 0) 256 (numAt k b (at + 1)) ∙ mod-eq-of-lt (byte-below b h at) in
     let high : (getD b at 0 + 256 * numAt k b (at + 1)) / 256 ≡ numAt k b (at + 1) = omega (arith, byte-below b h at) in
     rw (drop-cons b at 0 (omega arith), low, high, digits-numAt k b (at + 1) h (omega arith), add-one)
 
@@ -84,3 +91,16 @@ pub bytes-flat : {A : Type 0} (f : A → List ℕ) → ((x : A) → AreBytes (f 
 unfolding flat
 bytes-flat f y [] = λ k h. absurd (not-suc-le-zero h)
 bytes-flat f y (x ∷ xs) = bytes-append (f x) (flat f xs) (y x) (bytes-flat f y xs)
+
+-- ---- a field written byte by byte
+
+-- while i is below its width, one byte of what is left of the number is next, and then what is left of the field; at its end nothing is
+pub digits-left : (width i v : ℕ) → i < width → digits (width - i) v ≡ v % 256 ∷ digits (width - (i + 1)) (v / 256)
+unfolding digits
+digits-left width i v h =
+    let z : width - i ≡ suc (width - (i + 1)) = omega arith in rw z
+
+pub digits-none : (width i v : ℕ) → width ≤ i → digits (width - i) v ≡ []
+unfolding digits
+digits-none width i v h =
+    let z : width - i ≡ 0 = omega arith in rw z

@@ -83,7 +83,8 @@ gcd-assoc a b c = dvd-antisymm there back
     back : gcd a (gcd b c) ∣ gcd (gcd a b) c
     back =
         let r = gcd-right a (gcd b c) in
-        gcd-greatest (gcd a b) c _ (gcd-greatest a b _ (gcd-left a (gcd b c)) (dvd-trans _ r (gcd-left b c))) (dvd-trans _ r (gcd-right b c))
+        gcd-greatest (gcd a b) c _ (gcd-greatest a b _ (gcd-left a (gcd b c)) (dvd-trans _ r (gcd-left b c)))
+        (dvd-trans _ r (gcd-right b c))
 
 -- ---- of a list
 

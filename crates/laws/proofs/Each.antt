@@ -40,7 +40,8 @@ each-of-map P f [] h = tt
 each-of-map P f (x ∷ xs) h = (h .0, each-of-map P f xs (h .1))
 
 -- an entry with a later one, by index
-pub pairs-at : {A : Type 0} (R : A → A → Type 0) (d : A) (xs : List A) → Pairs R xs → (j k : ℕ) → j < k → k < length xs → R (getD xs j d) (getD xs k d)
+pub pairs-at : {A : Type 0} (R : A → A → Type 0) (d : A) (xs : List A) → Pairs R xs → (j k : ℕ) → j < k → k < length xs
+    → R (getD xs j d) (getD xs k d)
 pairs-at R d [] h j k a b = absurd (not-suc-le-zero b)
 pairs-at R d (x ∷ xs) h j zero a b = absurd (not-suc-le-zero a)
 pairs-at R d (x ∷ xs) h zero (suc k) a b = each-at (R x) d xs (h .0) k (le-of-suc-le-suc b)

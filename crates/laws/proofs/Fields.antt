@@ -16,6 +16,7 @@ pub numAt-two : (b : List ℕ) (at : ℕ) → numAt 2 b at ≡ getD b at 0 + 256
 unfolding numAt
 numAt-two b at = omega arith
 
-pub numAt-four : (b : List ℕ) (at : ℕ) → numAt 4 b at ≡ getD b at 0 + 256 * (getD b (at + 1) 0 + 256 * (getD b (at + 2) 0 + 256 * getD b (at + 3) 0))
+pub numAt-four : (b : List ℕ) (at : ℕ) → numAt 4 b at ≡ getD b at 0 + 256 *
+    (getD b (at + 1) 0 + 256 * (getD b (at + 2) 0 + 256 * getD b (at + 3) 0))
 unfolding numAt
 numAt-four b at = rw (add-assoc at 1 1, add-assoc at 2 1) (omega arith)

@@ -6,6 +6,7 @@ pub mod Divisor
 pub mod Multiple
 pub mod Lists
 pub mod Writing
+pub mod TwoPlaces
 pub mod Listing
 pub mod Turned
 pub mod Fields

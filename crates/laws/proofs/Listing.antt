@@ -20,7 +20,8 @@ pub listing-start : {A : Type 0} (f : A → List ℕ) (items : List A) (l : List
 listing-start f items l = record { within = omega arith; long = refl; wrote = unwritten (flat f items) l }
 
 -- the place is not past the end of all
-pub listing-at : {A : Type 0} {f : A → List ℕ} {items : List A} {l xs : List ℕ} {at i : ℕ} → Listing f items l xs at i → at ≤ length (flat f items)
+pub listing-at : {A : Type 0} {f : A → List ℕ} {items : List A} {l xs : List ℕ} {at i : ℕ} → Listing f items l xs at i
+    → at ≤ length (flat f items)
 listing-at s = omega (arith, room (s .wrote))
 
 -- what the next entry gives has room where all of it has
@@ -36,7 +37,8 @@ listing-room {A} {f} {items} {l} {xs} {at} {i} d p e s h =
     )
 
 -- after a call that was lent the buffer from `at` on, wrote what the next entry gives there and answered its length n
-pub listing-more : {A : Type 0} {f : A → List ℕ} {items : List A} {l xs : List ℕ} {at i : ℕ} (d : A) (p ys : List ℕ) (n : ℕ) → p ≡ f (getD items i d)
+pub listing-more : {A : Type 0} {f : A → List ℕ} {items : List A} {l xs : List ℕ} {at i : ℕ} (d : A) (p ys : List ℕ) (n : ℕ) → p
+    ≡ f (getD items i d)
     → Listing f items l xs at i → i < length items → n ≡ length p → ys ≡ over p (take (length xs - at) (drop at xs))
     → length (take at xs ++ (ys ++ drop (length xs - at) (drop at xs))) ≡ length l
     → Listing f items l (take at xs ++ (ys ++ drop (length xs - at) (drop at xs))) (at + n) (i + 1)

@@ -10,7 +10,8 @@ use native.Mathlib.Omega.{arith}
 use lib.Dec.{eqb}
 use lib.ListN.{length, getD, take, drop, set, replicate, length-append, length-set, drop-of-length-le, length-replicate, getD-replicate}
 use lib.Seq.{length-take-le, drop-cons, ext-getD, getD-take, getD-set-same, getD-set-other}
-use borrow.Author.Tests.{eqb-true, eqb-false, eq-eqb}
+use borrow.Author.Tests.{eqb-true, eqb-false, eq-eqb, ne-eqb}
+use Rattle.laws.specs.Choice.{pick}
 use Rattle.laws.specs.Lists.{tab, flat, sumOf, same-list}
 use Rattle.laws.proofs.Cases.{by-cases, lt-or-le, not-both, refuted, and-left, and-right, and-both}
 
@@ -46,9 +47,12 @@ tab-getD [] d = refl
 tab-getD {A} (x ∷ xs) d = ap (λ (l : List A). x ∷ l) (tab-getD xs d)
 
 -- and any list with a table's length and entries is the table
+pub tab-of : {A : Type 0} (d : A) (n : ℕ) (f : ℕ → A) (l : List A) → length l ≡ n → ((k : ℕ) → k < n → getD l k d ≡ f k) → l ≡ tab n f
+tab-of d n f l e h =
+    ext-getD d l (tab n f) (e ∙ sym (length-tab n f)) (λ k m. let m′ : k < n = omega arith in h k m′ ∙ sym (getD-tab n f d k m′))
+
 pub tab-is : (n : ℕ) (f : ℕ → ℕ) (l : List ℕ) → length l ≡ n → ((k : ℕ) → k < n → getD l k 0 ≡ f k) → l ≡ tab n f
-tab-is n f l e h =
-    ext-getD 0 l (tab n f) (e ∙ sym (length-tab n f)) (λ k m. let m′ : k < n = omega arith in h k m′ ∙ sym (getD-tab n f 0 k m′))
+tab-is = tab-of 0
 
 -- ---- map, flat and sums, by what is left of the list
 
@@ -57,13 +61,26 @@ drop-map g zero l = refl
 drop-map g (suc k) [] = refl
 drop-map g (suc k) (x ∷ xs) = drop-map g k xs
 
+-- a store before or after the map
+pub map-set : {A B : Type 0} (g : A → B) (l : List A) (i : ℕ) (v : A) → map g (set l i v) ≡ set (map g l) i (g v)
+map-set g [] i v = refl
+map-set g (x ∷ xs) zero v = refl
+map-set {A} {B} g (x ∷ xs) (suc i) v = ap (λ (l : List B). g x ∷ l) (map-set g xs i v)
+
+-- a list whose entries are told by what a map makes of them, where there is a way back
+pub map-back : {A B : Type 0} (g : A → B) (back : B → A) → ((x : A) → back (g x) ≡ x) → (l : List A) → map back (map g l) ≡ l
+map-back g back h [] = refl
+map-back {A} g back h (x ∷ xs) =
+    ap (λ (y : A). y ∷ map back (map g xs)) (h x) ∙ ap (λ (l : List A). x ∷ l) (map-back g back h xs)
+
 pub flat-append : {A B : Type 0} (f : A → List B) (xs ys : List A) → flat f (xs ++ ys) ≡ flat f xs ++ flat f ys
 unfolding flat
 flat-append f [] ys = refl
 flat-append {A} {B} f (x ∷ xs) ys = ap (λ (l : List B). f x ++ l) (flat-append f xs ys) ∙ sym (append-assoc (f x) (flat f xs) (flat f ys))
 
 -- where each entry gives s entries, all of them give s times as many
-pub length-flat : {A B : Type 0} (f : A → List B) (s : ℕ) → ((x : A) → length (f x) ≡ s) → (xs : List A) → length (flat f xs) ≡ s * length xs
+pub length-flat : {A B : Type 0} (f : A → List B) (s : ℕ) → ((x : A) → length (f x) ≡ s) → (xs : List A) → length (flat f xs)
+    ≡ s * length xs
 unfolding flat
 length-flat f s e [] = omega arith
 length-flat f s e (x ∷ xs) = length-append (f x) (flat f xs) ∙ omega (arith, e x, length-flat f s e xs)
@@ -113,10 +130,11 @@ pub same-list-differ : (xs ys : List ℕ) (k : ℕ) → (getD xs k 0 ≡ getD ys
 same-list-differ xs ys k h = same-list-not xs ys (λ e. h (ap (λ (l : List ℕ). getD l k 0) e))
 
 -- what stands at k after a store at i: what was stored, or what stood there
-getD-set : (l : List ℕ) (i v k x : ℕ) → i < length l → (k ≡ i → v ≡ x) → ((k ≡ i → ⊥) → getD l k 0 ≡ x) → getD (set l i v) k 0 ≡ x
-getD-set l i v k x h same other =
-    by-cases (eqb k i) (λ q. let e = eqb-true k i q in rw e (getD-set-same l i v 0 h ∙ same e))
-    (λ q. let n = eqb-false k i q in getD-set-other l i k v 0 n ∙ other n)
+getD-set : {A : Type 0} (d : A) (l : List A) (i : ℕ) (v : A) (k : ℕ) (x : A) → i < length l → (k ≡ i → v ≡ x)
+    → ((k ≡ i → ⊥) → getD l k d ≡ x) → getD (set l i v) k d ≡ x
+getD-set d l i v k x h same other =
+    by-cases (eqb k i) (λ q. let e = eqb-true k i q in rw e (getD-set-same l i v d h ∙ same e))
+    (λ q. let n = eqb-false k i q in getD-set-other l i k v d n ∙ other n)
 
 -- ---- an array that a loop takes from one table to another, entry after entry: f below i, g from there on
 
@@ -130,7 +148,7 @@ pub turned-more : {f g : ℕ → ℕ} {n i : ℕ} {l : List ℕ} (v : ℕ) → T
 turned-more {f} {g} {n} {i} {l} v t h e =
     record {
       long = simp length-set (t .long);
-      done = λ k p. getD-set l i v k (f k) (omega (arith, t .long)) (λ q. rw q e) (λ q. t .done k (omega arith));
+      done = λ k p. getD-set 0 l i v k (f k) (omega (arith, t .long)) (λ q. rw q e) (λ q. t .done k (omega arith));
       rest = λ k p q. getD-set-other l i k v 0 (omega arith) ∙ t .rest k (omega arith) q;
     }
 
@@ -145,7 +163,12 @@ Filled f n i l = Turned f (λ k. 0) n i l
 
 -- an array of zeros is filled up to 0
 pub filled-none : (f : ℕ → ℕ) (n : ℕ) → Filled f n 0 (replicate n 0)
-filled-none f n = record { long = length-replicate {A = ℕ} n 0; done = λ k h. absurd (omega arith); rest = λ k h l. getD-replicate n k 0 0 l }
+filled-none f n = record {
+  long = length-replicate {A = ℕ} n 0;
+  done = λ k h. absurd (omega arith);
+  rest =
+      λ k h l. getD-replicate n k 0 0 l;
+}
 
 pub filled-more : (f : ℕ → ℕ) (n i v : ℕ) (l : List ℕ) → Filled f n i l → i < n → v ≡ f i → Filled f n (i + 1) (set l i v)
 filled-more f n i v l F h e = turned-more v F h e
@@ -155,7 +178,8 @@ pub filled-all : (f : ℕ → ℕ) (n : ℕ) (l : List ℕ) → Filled f n n l �
 filled-all f n l F = turned-all F (omega arith)
 
 -- filled up to m, it is the table that goes on with 0
-pub filled-part : (f g : ℕ → ℕ) (n m : ℕ) (l : List ℕ) → Filled f n m l → ((k : ℕ) → k < m → f k ≡ g k) → ((k : ℕ) → m ≤ k → g k ≡ 0) → l ≡ tab n g
+pub filled-part : (f g : ℕ → ℕ) (n m : ℕ) (l : List ℕ) → Filled f n m l → ((k : ℕ) → k < m → f k ≡ g k) → ((k : ℕ) → m ≤ k → g k ≡ 0) → l
+    ≡ tab n g
 filled-part f g n m l F e z =
     tab-is n g l (F .long) (λ k h. lt-or-le k m (λ p. F .done k p ∙ e k p) (λ p. F .rest k p h ∙ sym (z k p)))
 
@@ -166,14 +190,28 @@ pub tab-zeros : (n : ℕ) (f : ℕ → ℕ) → ((k : ℕ) → f k ≡ 0) → re
 tab-zeros n f z = filled-part f f n 0 (replicate n 0) (filled-none f n) (λ k h. refl) (λ k h. z k)
 
 -- a table with one entry stored is the table of a function that differs there alone
+pub set-of : {A : Type 0} (d : A) (n i : ℕ) (v : A) (f g : ℕ → A) → i < n → v ≡ g i → ((k : ℕ) → (k ≡ i → ⊥) → f k ≡ g k)
+    → set (tab n f) i v ≡ tab n g
+set-of d n i v f g h e o =
+    tab-of d n g (set (tab n f) i v) (length-set (tab n f) i v ∙ length-tab n f)
+    (λ k m. getD-set d (tab n f) i v k (g k) (rw length-tab h) (λ q. rw q e) (λ q. getD-tab n f d k m ∙ o k q))
+
 pub set-tab : (n i v : ℕ) (f g : ℕ → ℕ) → i < n → v ≡ g i → ((k : ℕ) → (k ≡ i → ⊥) → f k ≡ g k) → set (tab n f) i v ≡ tab n g
-set-tab n i v f g h e o =
-    tab-is n g (set (tab n f) i v) (length-set (tab n f) i v ∙ length-tab n f)
-    (λ k m. getD-set (tab n f) i v k (g k) (rw length-tab h) (λ q. rw q e) (λ q. getD-tab n f 0 k m ∙ o k q))
+set-tab = set-of 0
+
+-- two neighbours stored one after the other
+pub set-two : (n i v w : ℕ) (f g : ℕ → ℕ) → i + 1 < n → v ≡ g i → w ≡ g (i + 1)
+    → ((k : ℕ) → (k ≡ i → ⊥) → (k ≡ i + 1 → ⊥) → f k ≡ g k) → set (set (tab n f) i v) (i + 1) w ≡ tab n g
+set-two n i v w f g h p q o =
+    let half : ℕ → ℕ = λ k. pick (eqb k i) v (f k) in
+    ap (λ l. set l (i + 1) w) (set-tab n i v f half (omega arith) (rw (eq-eqb i i refl)) (λ k d. rw (ne-eqb k i d)))
+    ∙ set-tab n (i + 1) w half g h q
+    (λ k d. by-cases (eqb k i) (λ e. rw e (p ∙ ap g (sym (eqb-true k i e)))) (λ e. rw e (o k (eqb-false k i e) d)))
 
 -- ---- what is left of `flat` at an index, and at the end
 
-pub flat-left : {A B : Type 0} (f : A → List B) (d : A) (l : List A) (k : ℕ) → k < length l → flat f (drop k l) ≡ f (getD l k d) ++ flat f (drop (k + 1) l)
+pub flat-left : {A B : Type 0} (f : A → List B) (d : A) (l : List A) (k : ℕ) → k < length l → flat f (drop k l) ≡ f (getD l k d)
+    ++ flat f (drop (k + 1) l)
 flat-left f d l k h = rw (add-one, drop-cons l k d) (flat-step f (getD l k d) (drop (suc k) l))
 
 pub flat-none : {A B : Type 0} (f : A → List B) (l : List A) (k : ℕ) → length l ≤ k → flat f (drop k l) ≡ []

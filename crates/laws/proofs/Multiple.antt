@@ -1,5 +1,5 @@
--- a / gcd a b · b is the least common multiple. Both divide it, since a/g·b is a·(b/g). And where both divide k, a·b divides k·a and k·b, so
--- it divides their greatest common divisor, which divides k·g; take g from both sides.
+-- a / gcd a b · b is the least common multiple. Both divide it, since a/g·b is a·(b/g). And where both divide k, a·b divides k·a and k·b,
+-- so it divides their greatest common divisor, which divides k·g; take g from both sides.
 -- Assumes nothing.
 use Prim.Native.Nat.{ℕ, zero, suc, _+_, _*_, _/_, _≤_, _<_, _∣_}
 use mathlib.Core.Path.{_≡_, refl, sym, ap, _∙_}
@@ -125,3 +125,9 @@ lcm-further m i xs h = rw (add-one, drop-cons xs i 0) (lcm-assoc m (getD xs i 0)
 pub lcm-finished : (m i : ℕ) (xs : List ℕ) → length xs ≤ i → lcm m (lcmOf (drop i xs)) ≡ m
 unfolding lcmOf
 lcm-finished m i xs h = rw (drop-of-length-le xs h) (dvd-antisymm (lcm-least m 1 m (dvd-refl m) (one-dvd m)) (lcm-left m 1))
+
+-- ---- as it is worked out
+
+pub lcm-is : (a b : ℕ) → lcm a b ≡ a / gcd a b * b
+unfolding lcm
+lcm-is a b = refl

@@ -56,7 +56,8 @@ holds-num {b} {at} k v h l =
     (numAt-after k (h .before) (digits k v ++ h .after) 0 ∙ numAt-digits k v (h .after) l)
 
 -- and so do those that stand after p
-pub holds-field : {b : List ℕ} {at : ℕ} (p : List ℕ) (k v place : ℕ) → HasPart b at (p ++ digits k v) → at + length p ≡ place → v < 256 ^ k → numAt k b place ≡ v
+pub holds-field : {b : List ℕ} {at : ℕ} (p : List ℕ) (k v place : ℕ) → HasPart b at (p ++ digits k v) → at + length p ≡ place → v < 256 ^ k
+    → numAt k b place ≡ v
 holds-field {b} {at} p k v place h e l = holds-num k v (holds-at (at + length p) place e (holds-right p (digits k v) h)) l
 
 -- of records of s entries each, the k-th stands k records on
@@ -89,6 +90,7 @@ pub cut-flat :
 unfolding flat tab
 cut-flat b f s zero g at e = rw mul-zero
 cut-flat b f s (suc n) g at e =
-    let rest = cut-flat b f s n (λ k. g (suc k)) (at + s) (λ k h. e (suc k) (omega arith) ∙ cut-same b s s (at + s * suc k) (at + s + s * k) refl (omega arith)) in
+    let rest = cut-flat b f s n (λ k. g (suc k)) (at + s)
+    (λ k h. e (suc k) (omega arith) ∙ cut-same b s s (at + s * suc k) (at + s + s * k) refl (omega arith)) in
     let one = e 0 (omega arith) ∙ cut-same b s s (at + s * 0) at refl (omega arith) in
     rw (one, rest, cut-join b at s (s * n)) (cut-same b (s + s * n) (s * suc n) at at (omega arith) refl)

@@ -54,7 +54,8 @@ first-clear test (suc n) k h =
     by-cases (test 0) (λ p. absurd (not-suc-le-zero (rw (first-yes test n p) at h)))
     (λ p. step p k (first-clear (λ j. test (suc j)) n) (rw (first-no test n p) at h))
   where
-    step : test 0 ≡ false → (k : ℕ) → Clear (λ j. test (suc j)) (first (λ j. test (suc j)) n) → k < suc (first (λ j. test (suc j)) n) → test k ≡ false
+    step : test 0 ≡ false → (k : ℕ) → Clear (λ j. test (suc j)) (first (λ j. test (suc j)) n) → k < suc (first (λ j. test (suc j)) n)
+        → test k ≡ false
     step p zero c l = p
     step p (suc j) c l = c j (le-of-suc-le-suc l)
 

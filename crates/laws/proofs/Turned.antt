@@ -1,6 +1,6 @@
--- A list that a loop takes from one table to another, entry after entry: f below i, g from i on. Where it is the front of a longer list that
--- is written, g is what stood there, and in the end the table of f is laid over it. Beside it what such a loop counts: whether any passed
--- a test so far.
+-- A list that a loop takes from one table to another, entry after entry: f below i, g from i on. Where it is the front of a longer list
+-- that is written, g is what stood there, and in the end the table of f is laid over it. Beside it what such a loop counts: whether any
+-- passed a test so far.
 -- Assumes nothing.
 use Prim.Native.Nat.{ℕ, _+_, _-_, _≤_, _<_}
 use mathlib.Core.Path.{_≡_, refl, sym, ap, _∙_}
@@ -31,7 +31,8 @@ pub turned-here : {f g : ℕ → ℕ} {n i : ℕ} {l : List ℕ} → Turned f g 
 turned-here {f} {g} {n} {i} {l} t h = t .rest i (omega arith) h
 
 -- turned up to i, the first i entries of f are laid over what stood there
-pub turned-over : {f : ℕ → ℕ} {m i : ℕ} {xs : List ℕ} (l : List ℕ) → Turned f (λ k. getD l k 0) m i xs → m ≡ length l → i ≤ m → xs ≡ over (tab i f) l
+pub turned-over : {f : ℕ → ℕ} {m i : ℕ} {xs : List ℕ} (l : List ℕ) → Turned f (λ k. getD l k 0) m i xs → m ≡ length l → i ≤ m → xs
+    ≡ over (tab i f) l
 unfolding over
 turned-over {f} {m} {i} {xs} l t e h =
     let w = tab i f in

@@ -14,6 +14,11 @@ pub over-nothing : (l : List ℕ) → over [] l ≡ l
 unfolding over
 over-nothing l = refl
 
+-- what `over` is, for those who look into it
+pub over-is : (a l : List ℕ) → over a l ≡ a ++ drop (length a) l
+unfolding over
+over-is a l = refl
+
 -- a part, then the next one behind it: both, over the front
 over-next : (w p l : List ℕ) → w ++ over p (drop (length w) l) ≡ over (w ++ p) l
 unfolding over
@@ -40,7 +45,8 @@ pub unwritten : (W l : List ℕ) → Wrote W l W l 0
 unwritten W l = record { w = []; len = refl; is = sym (over-nothing l); left = refl }
 
 -- after a call that was lent the buffer from a on, and wrote p over its front
-pub more : (W l rest xs p ys : List ℕ) (a : ℕ) → Wrote W l (p ++ rest) xs a → ys ≡ over p (take (length xs - a) (drop a xs)) → Wrote W l rest (take a xs ++ (ys ++ drop (length xs - a) (drop a xs))) (a + length p)
+pub more : (W l rest xs p ys : List ℕ) (a : ℕ) → Wrote W l (p ++ rest) xs a → ys ≡ over p (take (length xs - a) (drop a xs))
+    → Wrote W l rest (take a xs ++ (ys ++ drop (length xs - a) (drop a xs))) (a + length p)
 unfolding over
 more W l rest xs p ys a r e =
     record {
@@ -94,7 +100,8 @@ room {W} {l} {rest} {xs} {a} r = ap (λ (n : ℕ). n + length rest) (sym (r .len
 
 -- the rest by another name
 pub next : {W l rest rest′ xs : List ℕ} {a : ℕ} → rest ≡ rest′ → Wrote W l rest xs a → Wrote W l rest′ xs a
-next {W} {l} {rest} {rest′} {xs} {a} e r = record { w = r .w; len = r .len; is = r .is; left = ap (λ (t : List ℕ). r .w ++ t) (sym e) ∙ r .left }
+next {W} {l} {rest} {rest′} {xs} {a} e r =
+    record { w = r .w; len = r .len; is = r .is; left = ap (λ (t : List ℕ). r .w ++ t) (sym e) ∙ r .left }
 
 -- the place by another name
 pub moved : {W l rest xs : List ℕ} {a b : ℕ} → a ≡ b → Wrote W l rest xs a → Wrote W l rest xs b
@@ -110,7 +117,8 @@ pub written : (W l xs : List ℕ) (n : ℕ) → xs ≡ over W l → n ≡ length
 written W l xs n e p = record { w = W; len = sym p; is = e; left = append-nil W }
 
 -- after a call that was lent the buffer from a on, wrote p there and answered its length n
-pub grown : {W l xs : List ℕ} {a : ℕ} (p ys : List ℕ) (n : ℕ) → Wrote W l [] xs a → n ≡ length p → ys ≡ over p (take (length xs - a) (drop a xs))
+pub grown : {W l xs : List ℕ} {a : ℕ} (p ys : List ℕ) (n : ℕ) → Wrote W l [] xs a → n ≡ length p → ys
+    ≡ over p (take (length xs - a) (drop a xs))
     → Wrote (W ++ p) l [] (take a xs ++ (ys ++ drop (length xs - a) (drop a xs))) (a + n)
 grown {W} {l} {xs} {a} p ys n r e q =
     let all : r .w ≡ W = sym (append-nil (r .w)) ∙ r .left in
@@ -124,3 +132,7 @@ all-written {W} {l} {xs} {a} r = (sym (add-zero a) ∙ room r, done W l xs a r)
 -- the text by another name
 pub renamed : {W W′ l rest xs : List ℕ} {a : ℕ} → W ≡ W′ → Wrote W l rest xs a → Wrote W′ l rest xs a
 renamed {W} {W′} {l} {rest} {xs} {a} e r = record { w = r .w; len = r .len; is = r .is; left = r .left ∙ e }
+
+-- what was written over the front is read back from there
+pub over-front : (w l : List ℕ) (n : ℕ) → length w ≡ n → take n (over w l) ≡ w
+over-front w l n e = ap (take n) (over-is w l) ∙ take-at w (drop (length w) l) n e
