@@ -25,7 +25,8 @@ use Rattle.paper.specs.Bytes.{encode, headBytes, dutyBytes, runBytes, en
 use Rattle.paper.specs.Wanted.{dutiesOf, badRange, inRange, taken}
 use Rattle.paper.specs.Builder.{plan, planAt, badSlice}
 use Rattle.paper.specs.Text.{planText, printLine, decimalIn}
-use Rattle.paper.specs.Cases.{Case, Says, prints, p1Text, LoadsThen, pieces, outcome, Holds, p1, p2, p3, p4, p5, p6, p7, p8, p9, p10, cases, caseAt}
+use Rattle.paper.specs.Cases.{Case, Says, prints, p1Text, LoadsThen, pieces, outcome, Holds, p1, p2, p3, p4, p5, p6, p7, p8, p9, p10}
+use Rattle.paper.specs.Cases.{cases, caseAt}
 use Rattle.paper.proofs.Links.{Closed}
 use Rattle.paper.proofs.Loads.{later, loads-more, loads-closed, later-is}
 
@@ -51,7 +52,8 @@ abbrev t7 : Table
 t7 = tableFor p7 3 (run 0 0 0 1 ∷ run 0 1 1 2 ∷ run 1 1 0 1 ∷ run 1 2 1 1 ∷ [])
 
 abbrev t8 : Table
-t8 = tableFor p8 10 (run 0 0 0 7 ∷ run 0 1 7 3 ∷ run 1 1 0 1 ∷ run 1 2 1 5 ∷ run 1 3 6 4 ∷ run 2 4 0 2 ∷ run 2 5 2 7 ∷ run 2 6 9 1 ∷ run 3 6 0 1 ∷ run 3 7 1 9 ∷ [])
+t8 = tableFor p8 10 (run 0 0 0 7 ∷ run 0 1 7 3 ∷ run 1 1 0 1 ∷ run 1 2 1 5 ∷ run 1 3 6 4 ∷ run 2 4 0 2 ∷ run 2 5 2 7
+    ∷ run 2 6 9 1 ∷ run 3 6 0 1 ∷ run 3 7 1 9 ∷ [])
 
 abbrev t9 : Table
 t9 = tableFor p9 4 (run 0 0 0 3 ∷ run 0 1 3 1 ∷ run 1 1 0 2 ∷ run 1 2 2 2 ∷ run 2 2 0 1 ∷ run 2 3 1 3 ∷ [])
@@ -59,12 +61,12 @@ t9 = tableFor p9 4 (run 0 0 0 3 ∷ run 0 1 3 1 ∷ run 1 1 0 2 ∷ run 1 2 2 2 
 -- the builder makes them ..
 made : (outcome p1 ≡ answer t1) × (outcome p2 ≡ answer t2) × (outcome p3 ≡ answer t3) × (outcome p6 ≡ answer t6)
     × (outcome p7 ≡ answer t7) × (outcome p8 ≡ answer t8) × (outcome p9 ≡ answer t9)
-unfolding plan taken inRange planAt badRange badSlice sa1 lay layOne rowAfter unitAfter slice whole blockLengthOf gcdOf gcd euclid dutiesOf tab sumOf first
+unfolding plan taken inRange planAt sa1 lay layOne rowAfter unitAfter slice whole blockLengthOf gcdOf gcd euclid dutiesOf tab sumOf first
 made = (refl, refl, refl, refl, refl, refl, refl)
 
 -- .. and refuses the others
 not-made : (outcome p4 ≡ refused 7 0) × (outcome p5 ≡ refused 6 0) × (outcome p10 ≡ refused 5 0)
-unfolding plan taken inRange planAt badRange badSlice sa1 lay layOne rowAfter unitAfter slice whole blockLengthOf gcdOf gcd euclid dutiesOf tab sumOf first
+unfolding plan taken inRange planAt sa1 lay layOne rowAfter unitAfter slice whole blockLengthOf gcdOf gcd euclid dutiesOf tab sumOf first
 not-made = (refl, refl, refl)
 
 -- ---- their loads
@@ -108,7 +110,8 @@ planned c t e h = rw e h
 
 -- P1's printed plan, byte by byte
 printed1 : Says (answer t1) (prints p1Text)
-unfolding planText printLine decimalIn flat tab chainsBelow chainLength firstOf loads loadsIn load walk rowAt nextOf link heldIn covers same sumTo
+unfolding planText printLine decimalIn flat tab chainsBelow chainLength firstOf loads loadsIn load walk rowAt nextOf link heldIn covers same
+    sumTo
 printed1 = refl
 
 hold1 : Holds p1
@@ -140,7 +143,10 @@ hold9 = planned p9 t9 (made .6) (refl, (refl, tt))
 
 -- case by case
 cases-each : Each Holds cases
-cases-each = (hold1, (hold2, (hold3, ((not-made .0, tt), ((not-made .1, tt), (hold6, (hold7, (hold8, (hold9, ((not-made .2, tt), tt))))))))))
+cases-each = (
+  hold1,
+  (hold2, (hold3, ((not-made .0, tt), ((not-made .1, tt), (hold6, (hold7, (hold8, (hold9, ((not-made .2, tt), tt))))))))),
+)
 
 -- what the document states of P1 to P10 holds
 pub cases-hold : (i : ℕ) → i < length cases → Holds (caseAt i)

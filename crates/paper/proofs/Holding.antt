@@ -31,8 +31,11 @@ pub covers-has : (x : Run) (r : Row) (u : ℕ) → covers x r u ≡ true → Has
 unfolding covers
 covers-has x r u p =
     let from = eqb (x .row .0) (r .0) && leb (x .first) u in
-    let below = ltb u (stop x) in
-    (leb-true (x .first) u (and-right (eqb (x .row .0) (r .0)) (leb (x .first) u) (and-left from below p)), ltb-true u (stop x) (and-right from below p))
+    let below = ltb u (stop x) in (
+      leb-true (x .first) u (and-right (eqb (x .row .0) (r .0)) (leb (x .first) u) (and-left from below p)),
+      ltb-true u (stop x)
+          (and-right from below p),
+    )
 
 pub has-covers : (x : Run) (r : Row) (u : ℕ) → x .row .0 ≡ r .0 → Has x u → covers x r u ≡ true
 unfolding covers
@@ -114,10 +117,12 @@ same-sym (By i) (By j) = eqb-sym i j
 
 -- ---- for a loop over the runs: what the runs from k on hold
 
-pub held-from-yes : (xs : List Run) (r : Row) (u k : ℕ) → k < length xs → covers (runAt xs k) r u ≡ true → heldIn (drop k xs) r u ≡ By (runAt xs k .duty)
+pub held-from-yes : (xs : List Run) (r : Row) (u k : ℕ) → k < length xs → covers (runAt xs k) r u ≡ true → heldIn (drop k xs) r u
+    ≡ By (runAt xs k .duty)
 held-from-yes xs r u k h p = rw (drop-cons xs k (run 0 0 0 0) h) (held-yes (runAt xs k) (drop (suc k) xs) r u p)
 
-pub held-from-no : (xs : List Run) (r : Row) (u k : ℕ) → k < length xs → covers (runAt xs k) r u ≡ false → heldIn (drop k xs) r u ≡ heldIn (drop (k + 1) xs) r u
+pub held-from-no : (xs : List Run) (r : Row) (u k : ℕ) → k < length xs → covers (runAt xs k) r u ≡ false → heldIn (drop k xs) r u
+    ≡ heldIn (drop (k + 1) xs) r u
 held-from-no xs r u k h p = rw (add-one k, drop-cons xs k (run 0 0 0 0) h) (held-no (runAt xs k) (drop (suc k) xs) r u p)
 
 pub held-from-end : (xs : List Run) (r : Row) (u k : ℕ) → length xs ≤ k → heldIn (drop k xs) r u ≡ Idle

@@ -1,4 +1,5 @@
--- The cases P1 to P10, and what they and code need of the definitions: outcomes and tests, the rotation, what holds a unit, loads, what is asked.
+-- The cases P1 to P10, and what they and code need of the definitions: outcomes and tests, the rotation, what holds a unit, loads, what is
+-- asked.
 pub mod Outcomes
 pub mod Passed
 pub mod Rotation

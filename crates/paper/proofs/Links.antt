@@ -8,7 +8,7 @@ use native.Mathlib.Omega.{arith}
 use Rattle.paper.specs.Duties.{same}
 use Rattle.paper.specs.Words.{row, Table, heldIn}
 use Rattle.paper.specs.Rotation.{link, firstOf}
-use Rattle.paper.specs.Bytes.{Width}
+use Rattle.paper.specs.Limits.{Width}
 use Rattle.paper.specs.Statements.{Ranged}
 use Rattle.paper.proofs.Rotation.{begins}
 use Rattle.paper.proofs.Holding.{held-none, same-idle}

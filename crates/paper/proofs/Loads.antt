@@ -94,7 +94,8 @@ load-boundary t e b h =
     ∙ rw (walk-at t (engine e) (suc b) 0 h, walk-at t (engine e) b (t .ticks - 1) (omega arith), row-next (link t) b (engine e))
 
 -- the loads of engine e in block b: those at unit 0, and those of its row
-engine-loads : (t : Table) (e b : ℕ) → 1 ≤ t .ticks → sumTo (t .ticks) (loadAt t e b) ≡ loadAt t e b 0 + inside t (rowAt (link t) b (engine e) .0)
+engine-loads : (t : Table) (e b : ℕ) → 1 ≤ t .ticks → sumTo (t .ticks) (loadAt t e b)
+    ≡ loadAt t e b 0 + inside t (rowAt (link t) b (engine e) .0)
 unfolding inside
 engine-loads t e b h =
     let z : t .ticks ≡ suc (t .ticks - 1) = omega arith in
@@ -123,8 +124,8 @@ module _ (t : Table) (ok : Closed t) where
   blockLoads : ℕ → ℕ
   blockLoads b = sumTo (t .ticks) (λ u. sumTo (t .engines) (λ e. loadAt t e b u))
 
-  -- .. engine by engine: where the loads at unit 0 are those that f tells of the engines' rows in block a, they are f's of all rows, and those
-  -- inside all rows
+  -- .. engine by engine: where the loads at unit 0 are those that f tells of the engines' rows in block a, they are f's of all rows, and
+  -- those inside all rows
   block-loads :
       (b a : ℕ) (f : ℕ → ℕ) → ((e : ℕ) → loadAt t e b 0 ≡ f (rowAt (link t) a (engine e) .0))
       → blockLoads b ≡ sumTo (t .engines) f + sumTo (t .engines) (inside t)

@@ -1,5 +1,5 @@
--- What an equation between two outcomes tells: an answer is no refusal, each determines what it carries, and what one call after another, or one
--- test after another, came to tells what the first came to.
+-- What an equation between two outcomes tells: an answer is no refusal, each determines what it carries, and what one call after another,
+-- or one test after another, came to tells what the first came to.
 -- Assumes nothing.
 use Prim.Native.Nat.{ℕ}
 use mathlib.Core.Path.{_≡_, refl, sym, ap}
@@ -26,18 +26,25 @@ answer-one x y e = cc
 pub refused-one : {A : Type 0} (n p k q : ℕ) → _≡_ {A = Outcome A} (refused n p) (refused k q) → (n ≡ k) × (p ≡ q)
 refused-one n p k q e = (cc, cc)
 
+-- an outcome handed on as it is
+pub then-same : {A : Type 0} (o : Outcome A) → andThen o answer ≡ o
+then-same (refused n p) = refl
+then-same (answer a) = refl
+
 -- a refusal stays one where answers only become other answers
 pub then-refused : {A B : Type 0} (o : Outcome A) (f : A → B) (n p : ℕ) → andThen o (λ a. answer (f a)) ≡ refused n p → o ≡ refused n p
 then-refused (refused k q) f n p e = cc
 then-refused (answer a) f n p e = answered (f a) n p e
 
 -- what is answered in the end was made of an answer
-pub then-answer : {A B : Type 0} (o : Outcome A) (f : A → Outcome B) (b : B) → andThen o f ≡ answer b → (a : A) × (o ≡ answer a) × (f a ≡ answer b)
+pub then-answer : {A B : Type 0} (o : Outcome A) (f : A → Outcome B) (b : B) → andThen o f ≡ answer b → (a : A) × (o ≡ answer a)
+    × (f a ≡ answer b)
 then-answer (refused n p) f b e = answered b n p (sym e)
 then-answer (answer a) f b e = (a, refl, e)
 
 -- an answer after a test for a fault: the test failed, and what follows gave the answer
-pub past : {A : Type 0} (b : Bool) (n p : ℕ) (rest : Outcome A) (a : A) → pick b (refused n p) rest ≡ answer a → (b ≡ false) × (rest ≡ answer a)
+pub past : {A : Type 0} (b : Bool) (n p : ℕ) (rest : Outcome A) (a : A) → pick b (refused n p) rest ≡ answer a → (b ≡ false)
+    × (rest ≡ answer a)
 past true n p rest a h = answered a n p (sym h)
 past false n p rest a h = (refl, h)
 
@@ -48,7 +55,8 @@ refused-leaves n p buffer = refl
 -- ---- whatever writes
 
 -- what is left by an outcome is left by an equal one
-pub writes-same : {o o′ : Outcome (List ℕ)} {r : Written} {before after : List ℕ} → o ≡ o′ → Writes o′ r before after → Writes o r before after
+pub writes-same : {o o′ : Outcome (List ℕ)} {r : Written} {before after : List ℕ} → o ≡ o′ → Writes o′ r before after
+    → Writes o r before after
 writes-same e w = rw e w
 
 -- a refusal leaves the bytes
@@ -56,5 +64,6 @@ pub writes-refused : {o : Outcome (List ℕ)} (x : Refusal) (l : List ℕ) → o
 writes-refused x l e = rw e (record { said = refl; left = refl })
 
 -- an answer is the length of what is laid over them
-pub writes-length : {o : Outcome (List ℕ)} {n : ℕ} (w l after : List ℕ) → o ≡ answer w → length w ≡ n → after ≡ over w l → Writes o (Length n) l after
+pub writes-length : {o : Outcome (List ℕ)} {n : ℕ} (w l after : List ℕ) → o ≡ answer w → length w ≡ n → after ≡ over w l
+    → Writes o (Length n) l after
 writes-length w l after e f g = rw e (record { said = ap answer (sym f); left = g })

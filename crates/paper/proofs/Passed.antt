@@ -13,7 +13,9 @@ use Rattle.laws.proofs.Decides.{Decides}
 use Rattle.paper.specs.declared.Duty.{Duty}
 use Rattle.paper.specs.Duties.{dutyAt}
 use Rattle.paper.specs.Words.{stop}
-use Rattle.paper.specs.Bytes.{Width, mostTicks, within, headLength, dutyLength, runLength, endLength, stands, ticksIn, enginesIn, dutiesIn, dutyIn, dutyRanged, runIn, headGood, dutyGood, runGood, endGood}
+use Rattle.paper.specs.Limits.{Width, mostTicks, headLength, dutyLength, runLength, endLength}
+use Rattle.paper.specs.Bytes.{within, stands, ticksIn, enginesIn, dutiesIn, dutyIn, dutyRanged, runIn, headGood, dutyGood, runGood}
+use Rattle.paper.specs.Bytes.{endGood}
 use Rattle.paper.specs.Statements.{DutyRanged, RunRanged}
 
 -- the number is from low to high
@@ -51,7 +53,6 @@ pub record HeadTold (w : Width) (b : List ℕ) : Type 0 where
 
 -- a head that passed
 pub head-told : (w : Width) (b : List ℕ) → headGood w b ≡ true → HeadTold w b
-unfolding headGood
 head-told w b h =
     let s = stands b 0 (w .headKind) (headLength w) in
     let x = within 1 mostTicks (ticksIn b) in
@@ -78,7 +79,8 @@ duty-ranged x h =
 pub duty-decides : (x : Duty) → Decides (dutyRanged x) (DutyRanged x)
 duty-decides x = (
   duty-ranged x,
-  (λ r. and-both _ _ (within-decides 1 mostTicks (x .period) .1 (r .period-least, r .period-most)) (within-decides 1 (x .period) (x .service) .1 (r .service-least, r .service-most))),
+  (λ r. and-both _ _ (within-decides 1 mostTicks (x .period) .1 (r .period-least, r .period-most))
+      (within-decides 1 (x .period) (x .service) .1 (r .service-least, r .service-most))),
 )
 
 -- what 4 and 5 ask of duty i, and of all duties
@@ -90,7 +92,6 @@ Ranges ds = (i : ℕ) → i < length ds → InRange ds i
 
 -- a duty's record that passed
 pub duty-told : (b : List ℕ) (at : ℕ) → dutyGood b at ≡ true → Standing b at 2 dutyLength × DutyRanged (dutyIn b at)
-unfolding dutyGood
 duty-told b at h =
     let s = stands b at 2 dutyLength in
     let r = dutyRanged (dutyIn b at) in
@@ -99,7 +100,6 @@ duty-told b at h =
 -- a run's record that passed
 pub run-told : (w : Width) (b : List ℕ) (at : ℕ) → runGood w b at ≡ true
     → Standing b at (w .runKind) (runLength w) × RunRanged (ticksIn b) (enginesIn b) (dutiesIn w b) (runIn w b at)
-unfolding runGood
 run-told w b at h =
     let s = stands b at (w .runKind) (runLength w) in
     let x = runIn w b at in
@@ -121,7 +121,6 @@ run-told w b at h =
 
 -- an end record that passed
 pub end-told : (b : List ℕ) (at n : ℕ) → endGood b at n ≡ true → Standing b at 4 endLength × (numAt 2 b (at + 1) ≡ n)
-unfolding endGood
 end-told b at n h =
     let s = stands b at 4 endLength in
     let e = eqb (numAt 2 b (at + 1)) n in

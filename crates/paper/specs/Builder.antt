@@ -12,11 +12,11 @@ use Rattle.paper.specs.Duties.{dutyAt}
 use Rattle.paper.specs.Words.{blockLengthOf, whole, Table}
 use Rattle.paper.specs.Sa1.{slices, sa1}
 use Rattle.paper.specs.Outcome.{Outcome, refused, answer, andThen}
-use Rattle.paper.specs.Bytes.{small, encode}
+use Rattle.paper.specs.Bytes.{bytesOf}
 use Rattle.paper.specs.Wanted.{Wanted, taken}
 
 -- "a slice not whole": the lowest duty, or how many there are
-unfoldable pub badSlice : ℕ → List Duty → ℕ
+abbrev pub badSlice : ℕ → List Duty → ℕ
 badSlice t ds = first (λ d. not (whole t (dutyAt ds d))) (length ds)
 
 -- 6 "a slice not whole", 7 "the slices add up to more than engines·T", else SA1's table
@@ -30,8 +30,8 @@ unfoldable pub plan : Wanted → Outcome Table
 plan x = andThen (taken x) (λ ds. planAt (blockLengthOf ds) (x .engines) ds)
 
 -- 8 "buffer shorter than the table", place "bytes needed"; else the table's bytes
-unfoldable pub fitted : ℕ → List ℕ → Outcome (List ℕ)
+abbrev pub fitted : ℕ → List ℕ → Outcome (List ℕ)
 fitted room bytes = pick (ltb room (length bytes)) (refused 8 (length bytes)) (answer bytes)
 
-unfoldable pub build : Wanted → ℕ → Outcome (List ℕ)
-build x room = andThen (plan x) (λ t. fitted room (encode small t))
+abbrev pub build : Wanted → ℕ → Outcome (List ℕ)
+build x room = andThen (plan x) (λ t. fitted room (bytesOf t))

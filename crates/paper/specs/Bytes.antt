@@ -12,24 +12,8 @@ use Rattle.paper.specs.declared.Duty.{Duty}
 use Rattle.paper.specs.declared.Run.{Run}
 use Rattle.paper.specs.Duties.{duty}
 use Rattle.paper.specs.Words.{run, stop, Table}
+use Rattle.paper.specs.Limits.{Width, small, mostTicks, dutyKind, endKind, headLength, dutyLength, runLength, endLength}
 use Rattle.paper.specs.Outcome.{Outcome, refused, answer}
-
--- the kinds, field lengths and ranges that a part's size decides
-pub record Width : Type 0 where
-  pub headKind : ℕ
-  pub runKind : ℕ
-  pub dutyField : ℕ
-  pub mostEngines : ℕ
-  pub mostDuties : ℕ
-  pub mostRuns : ℕ
-
--- "engines 1 to 32, duties 1 to 64, .. at most 128 runs in a table"; a duty's number has one byte
-abbrev pub small : Width
-small = record { headKind = 1; runKind = 3; dutyField = 1; mostEngines = 32; mostDuties = 64; mostRuns = 128 }
-
--- "period 1 to 1,000,000"
-abbrev pub mostTicks : ℕ
-mostTicks = 1_000_000
 
 -- the number is from low to high
 abbrev pub within : ℕ → ℕ → ℕ → Bool
@@ -42,7 +26,7 @@ headBytes w t = w .headKind ∷ digits 4 (t .ticks) ++ digits 1 (t .engines) ++ 
 
 -- kind 2: service (4), period (4)
 unfoldable pub dutyBytes : Duty → List ℕ
-dutyBytes x = 2 ∷ digits 4 (x .service) ++ digits 4 (x .period)
+dutyBytes x = dutyKind ∷ digits 4 (x .service) ++ digits 4 (x .period)
 
 -- kind 3: row (1), duty (1), first unit (4), length (4)
 unfoldable pub runBytes : Width → Run → List ℕ
@@ -50,25 +34,13 @@ runBytes w x = w .runKind ∷ digits 1 (x .row .0) ++ digits (w .dutyField) (x .
 
 -- kind 4: number of runs (2)
 unfoldable pub endBytes : ℕ → List ℕ
-endBytes n = 4 ∷ digits 2 n
+endBytes n = endKind ∷ digits 2 n
 
 -- "Order: one kind 1, one kind 2 for each duty, the runs, one kind 4, nothing after."
 unfoldable pub encode : Width → Table → List ℕ
 encode w t = headBytes w t ++ flat dutyBytes (t .duties) ++ flat (runBytes w) (t .runs) ++ endBytes (length (t .runs))
 
--- the records' lengths, and where duty d and, after n duties, run k stand
-abbrev pub headLength : Width → ℕ
-headLength w = 6 + w .dutyField
-
-abbrev pub dutyLength : ℕ
-dutyLength = 9
-
-abbrev pub runLength : Width → ℕ
-runLength w = 10 + w .dutyField
-
-abbrev pub endLength : ℕ
-endLength = 3
-
+-- where duty d and, after n duties, run k stand
 abbrev pub dutyPlace : Width → ℕ → ℕ
 dutyPlace w d = headLength w + dutyLength * d
 
@@ -90,7 +62,7 @@ abbrev pub dutiesIn : Width → List ℕ → ℕ
 dutiesIn w b = numAt (w .dutyField) b 6
 
 -- ".. holds a field out of range (T from 1 to 1,000,000; the ranges above ..)"
-unfoldable pub headGood : Width → List ℕ → Bool
+abbrev pub headGood : Width → List ℕ → Bool
 headGood w b =
     stands b 0 (w .headKind) (headLength w) && within 1 mostTicks (ticksIn b) && within 1 (w .mostEngines) (enginesIn b)
     && within 1 (w .mostDuties) (dutiesIn w b)
@@ -102,8 +74,8 @@ dutyIn b at = duty (numAt 4 b (at + 1)) (numAt 4 b (at + 5))
 abbrev pub dutyRanged : Duty → Bool
 dutyRanged x = within 1 mostTicks (x .period) && within 1 (x .period) (x .service)
 
-unfoldable pub dutyGood : List ℕ → ℕ → Bool
-dutyGood b at = stands b at 2 dutyLength && dutyRanged (dutyIn b at)
+abbrev pub dutyGood : List ℕ → ℕ → Bool
+dutyGood b at = stands b at dutyKind dutyLength && dutyRanged (dutyIn b at)
 
 -- the run in the record at a place: "row and duty below their counts; length at least 1; first + length at most T"
 unfoldable pub runIn : Width → List ℕ → ℕ → Run
@@ -113,18 +85,18 @@ runIn w b at =
 abbrev pub runRanged : (t m n : ℕ) → Run → Bool
 runRanged t m n x = ltb (x .row .0) m && ltb (x .duty) n && leb 1 (x .length) && leb (stop x) t
 
-unfoldable pub runGood : Width → List ℕ → ℕ → Bool
+abbrev pub runGood : Width → List ℕ → ℕ → Bool
 runGood w b at = stands b at (w .runKind) (runLength w) && runRanged (ticksIn b) (enginesIn b) (dutiesIn w b) (runIn w b at)
 
 -- ".. or is a kind 4 with the wrong number"
-unfoldable pub endGood : List ℕ → ℕ → ℕ → Bool
-endGood b at n = stands b at 4 endLength && eqb (numAt 2 b (at + 1)) n
+abbrev pub endGood : List ℕ → ℕ → ℕ → Bool
+endGood b at n = stands b at endKind endLength && eqb (numAt 2 b (at + 1)) n
 
 -- the first duty record of n that is no good, and how many good runs follow n duties, at most 128
-unfoldable pub badDuty : Width → List ℕ → ℕ → ℕ
+abbrev pub badDuty : Width → List ℕ → ℕ → ℕ
 badDuty w b n = first (λ d. not (dutyGood b (dutyPlace w d))) n
 
-unfoldable pub goodRuns : Width → List ℕ → ℕ → ℕ
+abbrev pub goodRuns : Width → List ℕ → ℕ → ℕ
 goodRuns w b n = first (λ k. not (runGood w b (runPlace w n k))) (w .mostRuns)
 
 -- the table whose n duties and k runs stand in the bytes
@@ -149,3 +121,11 @@ afterHead w b n = pick (ltb (badDuty w b n) n) (refused 10 (dutyPlace w (badDuty
 
 unfoldable pub parse : Width → List ℕ → Outcome Table
 parse w b = pick (not (headGood w b)) (refused 10 0) (afterHead w b (dutiesIn w b))
+
+-- ---- the two ways between a table and its bytes
+
+abbrev pub bytesOf : Table → List ℕ
+bytesOf t = encode small t
+
+abbrev pub readTable : List ℕ → Outcome Table
+readTable b = parse small b

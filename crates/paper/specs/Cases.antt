@@ -11,15 +11,16 @@ use Rattle.paper.specs.declared.Row.{Row}
 use Rattle.paper.specs.declared.Engine.{Engine}
 use Rattle.paper.specs.declared.Duty.{Duty}
 use Rattle.paper.specs.declared.Run.{Run}
+use Rattle.paper.specs.declared.Chain.{Chain}
 use Rattle.paper.specs.declared.Held.{Held}
 use Rattle.paper.specs.declared.Held.the-variants.{Idle, By}
 use Rattle.paper.specs.Duties.{engine, duty}
 use Rattle.paper.specs.Words.{row, run, Table}
 use Rattle.paper.specs.Sa1.{slices}
-use Rattle.paper.specs.Rotation.{Chain, link, rowAt, chains}
+use Rattle.paper.specs.Rotation.{chain, link, rowAt, chains}
 use Rattle.paper.specs.Walk.{walk, loads}
 use Rattle.paper.specs.Outcome.{Outcome, refused, answer}
-use Rattle.paper.specs.Bytes.{small, encode}
+use Rattle.paper.specs.Bytes.{bytesOf}
 use Rattle.paper.specs.Wanted.{wantedOf}
 use Rattle.paper.specs.Builder.{plan}
 use Rattle.paper.specs.Text.{planText}
@@ -82,7 +83,7 @@ Says o (loadsThen a b) = Gives o (λ t. LoadsThen t a b)
 Says o (loadsOver n a) = Gives o (λ t. loads t n ≡ a)
 Says o (atTick k e h) = Gives o (λ t. walk t e k ≡ h)
 Says o (engineRows e rs) = Gives o (λ t. tab (length rs) (λ b. rowAt (link t) b e) ≡ rs)
-Says o (bytesAre bs) = Gives o (λ t. encode small t ≡ bs)
+Says o (bytesAre bs) = Gives o (λ t. bytesOf t ≡ bs)
 Says o (prints bs) = Gives o (λ t. planText t ≡ bs)
 
 pub record Case : Type 0 where
@@ -99,9 +100,6 @@ abbrev pub Holds : Case → Type 0
 Holds c = Each (Says (outcome c)) (c .facts)
 
 -- ---- the table
-
-abbrev chain : ℕ → ℕ → Chain
-chain r n = record { first = r; length = n }
 
 -- "the output in whole", a line for each of: plan 3 2 3; duty 0 2 3; duty 1 2 3; duty 2 2 3; run 0 0 0 2; run 0 1 2 1; run 1 1 0 1;
 -- run 1 2 1 2; chain 0 2; loads 4 3

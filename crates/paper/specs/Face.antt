@@ -12,8 +12,9 @@ use Rattle.paper.specs.declared.Reading.{Reading}
 use Rattle.paper.specs.declared.Reply.{Reply}
 use Rattle.paper.specs.declared.State.{State}
 use Rattle.paper.specs.Duties.{engine}
+use Rattle.paper.specs.Words.{row, rowNumbers}
 use Rattle.paper.specs.Outcome.{Outcome, refused, answer, andThen, leaves}
-use Rattle.paper.specs.Bytes.{small}
+use Rattle.paper.specs.Limits.{mostEngines, wordRoom, readingRoom, replyRoom, stateRoom, shareReadingRoom}
 use Rattle.paper.specs.Wanted.{Wanted}
 use Rattle.paper.specs.Builder.{build}
 use Rattle.paper.specs.Rules.{judged}
@@ -56,48 +57,49 @@ replyEntries r = r .row .0 ∷ heldEntry (r .held) ∷ []
 
 -- a dispatcher's state: the block, then 32 rows; and the state in such entries
 abbrev pub stateEntries : State → List ℕ
-stateEntries s = s .block ∷ s .rows
+stateEntries s = s .block ∷ rowNumbers (s .rows)
 
 abbrev pub stateIn : List ℕ → State
-stateIn l = record { block = getD l 0 0; rows = tab (small .mostEngines) (λ e. getD l (e + 1) 0) }
+stateIn l = record { block = getD l 0 0; rows = tab mostEngines (λ e. row (getD l (e + 1) 0)) }
 
 -- ---- the calls
 
 -- the builder: the table's bytes; its answer is their number
-unfoldable pub buildCall : Wanted → List ℕ → List ℕ → Outcome (List ℕ)
-buildCall x table lent = needing 1 lent (build x (length table))
+abbrev pub buildCall : Wanted → List ℕ → List ℕ → Outcome (List ℕ)
+buildCall x table lent = needing wordRoom lent (build x (length table))
 
 abbrev pub buildEntries : Outcome (List ℕ) → Outcome (List ℕ)
 buildEntries o = entries (λ w. length w ∷ []) o
 
 -- the judge: the reading
-unfoldable pub judgeCall : List ℕ → List ℕ → Outcome (List ℕ)
-judgeCall b lent = needing 4 lent (entries readingEntries (judged b))
+abbrev pub judgeCall : List ℕ → List ℕ → Outcome (List ℕ)
+judgeCall b lent = needing readingRoom lent (entries readingEntries (judged b))
 
 -- the question: the reply
-unfoldable pub questionCall : List ℕ → ℕ → ℕ → List ℕ → Outcome (List ℕ)
-questionCall b e k lent = needing 2 lent (entries replyEntries (question b (engine e) k))
+abbrev pub questionCall : List ℕ → ℕ → ℕ → List ℕ → Outcome (List ℕ)
+questionCall b e k lent = needing replyRoom lent (entries replyEntries (question b (engine e) k))
 
 -- the dispatcher: its state
-unfoldable pub startCall : List ℕ → ℕ → List ℕ → Outcome (List ℕ)
-startCall b k lent = needing 33 lent (entries stateEntries (start b k))
+abbrev pub startCall : List ℕ → ℕ → List ℕ → Outcome (List ℕ)
+startCall b k lent = needing stateRoom lent (entries stateEntries (start b k))
 
-unfoldable pub rowCall : List ℕ → List ℕ → ℕ → List ℕ → Outcome (List ℕ)
-rowCall b state e lent = needing 33 state (needing 1 lent (entries (λ r. r .0 ∷ []) (rowTold b (stateIn state) (engine e))))
+abbrev pub rowCall : List ℕ → List ℕ → ℕ → List ℕ → Outcome (List ℕ)
+rowCall b state e lent = needing stateRoom state (needing wordRoom lent (entries (λ r. r .0 ∷ []) (rowTold b (stateIn state) (engine e))))
 
-unfoldable pub nextCall : List ℕ → List ℕ → Outcome (List ℕ)
-nextCall b state = needing 33 state (entries stateEntries (advanced b (stateIn state)))
+abbrev pub nextCall : List ℕ → List ℕ → Outcome (List ℕ)
+nextCall b state = needing stateRoom state (entries stateEntries (advanced b (stateIn state)))
 
 -- the count: the loads
-unfoldable pub countCall : List ℕ → ℕ → List ℕ → Outcome (List ℕ)
-countCall b n lent = needing 1 lent (entries (λ x. x ∷ []) (counted b n))
+abbrev pub countCall : List ℕ → ℕ → List ℕ → Outcome (List ℕ)
+countCall b n lent = needing wordRoom lent (entries (λ x. x ∷ []) (counted b n))
 
--- the builder of shares: its answer is the reading, that is entries, block length and blocks; the lent list has the allotments over its front
+-- the builder of shares: its answer is the reading, that is entries, block length and blocks; the lent list has the allotments over its
+-- front
 abbrev pub shareReadingEntries : ShareReading → List ℕ
 shareReadingEntries rd = rd .entries ∷ rd .«block_length» ∷ rd .blocks ∷ []
 
-unfoldable pub sharesCall : Wanted → List ℕ → List ℕ → Outcome Sharing
-sharesCall x list lent = needing 3 lent (sharePlan x (length list))
+abbrev pub sharesCall : Wanted → List ℕ → List ℕ → Outcome Sharing
+sharesCall x list lent = needing shareReadingRoom lent (sharePlan x (length list))
 
 abbrev pub sharesEntries : Outcome Sharing → Outcome (List ℕ)
 sharesEntries o = entries (λ s. shareReadingEntries (readingOfShares s)) o
@@ -106,5 +108,5 @@ abbrev pub sharesLeft : Outcome Sharing → Outcome (List ℕ)
 sharesLeft o = entries shareList o
 
 -- the question to a plan of shares: the duty or the mark for idle
-unfoldable pub shareAtCall : Wanted → ℕ → ℕ → List ℕ → Outcome (List ℕ)
-shareAtCall x e k lent = needing 1 lent (entries (λ h. heldEntry h ∷ []) (shareQuestion x (engine e) k))
+abbrev pub shareAtCall : Wanted → ℕ → ℕ → List ℕ → Outcome (List ℕ)
+shareAtCall x e k lent = needing wordRoom lent (entries (λ h. heldEntry h ∷ []) (shareQuestion x (engine e) k))

@@ -1,6 +1,8 @@
--- Document 01 in its order: duties and engines, the words of a plan, SA1, the rotation; what a schedule is, and the walk; outcomes and how
--- answers read, the table's bytes; what is wanted and refusals 1 to 5, the builder, the rules of the judge and the same as plain statements,
--- what is asked of a table; the program's text. Document 02's request 3: SA2, and its plans of shares. The outside face; and the cases.
+-- Document 01 in its order: ranges and lengths, duties and engines, the words of a plan, SA1, the rotation; what a schedule is, and the
+-- walk; outcomes and how answers read, the table's bytes; what is wanted and refusals 1 to 5, the builder, the rules of the judge and the
+-- same as plain statements, what is asked of a table; the program's text. Document 02's request 3: SA2, and its plans of shares. The
+-- outside face; and the cases.
+pub mod Limits
 pub mod Duties
 pub mod Words
 pub mod Sa1

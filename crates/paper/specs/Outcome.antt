@@ -25,10 +25,6 @@ abbrev pub andThen : {A B : Type 0} → Outcome A → (A → Outcome B) → Outc
 andThen (refused n p) f = refused n p
 andThen (answer a) f = f a
 
--- no place is above this: a place is a duty, a run, a line, an offset, or a number of bytes or entries
-abbrev pub mostPlace : ℕ
-mostPlace = 4_294_967_296
-
 -- ---- refusals and verdicts
 
 -- the refusal of a number and a place, and what it reads as

@@ -7,6 +7,7 @@ use Rattle.laws.specs.Choice.{pick, one-if}
 use Rattle.laws.specs.Sum.{sumTo}
 use Rattle.paper.specs.declared.Row.{Row}
 use Rattle.paper.specs.declared.Engine.{Engine}
+use Rattle.paper.specs.declared.Chain.{Chain}
 use Rattle.paper.specs.Duties.{engine, same}
 use Rattle.paper.specs.Words.{row, Table, heldIn}
 
@@ -33,14 +34,14 @@ rowAt c (suc b) e = rowAt c b (engine (nextOf c (e .0)))
 unfoldable pub chainLength : (ℕ → Bool) → ℕ → ℕ → ℕ
 chainLength c m r = sumTo m (λ k. one-if (eqb (firstOf c k) r))
 
-pub record Chain : Type 0 where
-  pub first : ℕ
-  pub length : ℕ
+-- a chain, by its first row and how many rows it has
+abbrev pub chain : ℕ → ℕ → Chain
+chain r n = record { first = row r; length = n }
 
 -- the chains of m rows that begin below row k, by their first row
 unfoldable pub chainsBelow : (ℕ → Bool) → ℕ → ℕ → List Chain
 chainsBelow c m zero = []
-chainsBelow c m (suc k) = chainsBelow c m k ++ pick (eqb (firstOf c k) k) (record { first = k; length = chainLength c m k } ∷ []) []
+chainsBelow c m (suc k) = chainsBelow c m k ++ pick (eqb (firstOf c k) k) (chain k (chainLength c m k) ∷ []) []
 
 abbrev pub chains : Table → List Chain
 chains t = chainsBelow (link t) (t .engines) (t .engines)

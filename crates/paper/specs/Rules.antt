@@ -11,7 +11,7 @@ use Rattle.paper.specs.declared.Reading.{Reading}
 use Rattle.paper.specs.Duties.{dutyAt}
 use Rattle.paper.specs.Words.{stop, slice, blockLengthOf, Table, runAt}
 use Rattle.paper.specs.Outcome.{Outcome, refused, answer, andThen}
-use Rattle.paper.specs.Bytes.{small, parse}
+use Rattle.paper.specs.Bytes.{readTable}
 use Rattle.paper.specs.Builder.{badSlice}
 
 -- x comes before y "by (row, first unit)"
@@ -41,7 +41,7 @@ unfoldable pub twice : Run → Run → Bool
 twice x y = not (eqb (x .row .0) (y .row .0)) && eqb (x .duty) (y .duty) && meet x y
 
 -- the lowest run that is so to an earlier one, or how many there are
-unfoldable pub lowest : (Run → Run → Bool) → List Run → ℕ
+abbrev pub lowest : (Run → Run → Bool) → List Run → ℕ
 lowest bad xs = first (λ k. any (λ j. bad (runAt xs j) (runAt xs k)) k) (length xs)
 
 -- the units of all runs of duty i
@@ -50,11 +50,11 @@ unitsOf [] i = zero
 unitsOf (x ∷ xs) i = pick (eqb (x .duty) i) (x .length) 0 + unitsOf xs i
 
 -- 17 "a duty's runs do not add up to its slice": the lowest duty, or how many there are
-unfoldable pub badSum : Table → ℕ
+abbrev pub badSum : Table → ℕ
 badSum t = first (λ i. not (eqb (unitsOf (t .runs) i) (slice (t .ticks) (dutyAt (t .duties) i)))) (length (t .duties))
 
 -- 13: the lowest run, or how many there are
-unfoldable pub badOrder : Table → ℕ
+abbrev pub badOrder : Table → ℕ
 badOrder t = first (unordered (t .runs)) (length (t .runs))
 
 -- a place below the count is a fault with that number; else the next rule is looked at
@@ -71,18 +71,22 @@ judgeRuns t =
     (fault 17 (badSum t) (length (t .duties)) (answer t)))))
 
 -- 11 "T is not the greatest common divisor of the periods", 12 "a slice in the table not whole"
-unfoldable pub judgeTable : Table → Outcome Table
-judgeTable t =
+unfoldable pub judgeDuties : Table → Outcome Table
+judgeDuties t =
     pick (not (eqb (t .ticks) (blockLengthOf (t .duties)))) (refused 11 0)
-    (fault 12 (badSlice (t .ticks) (t .duties)) (length (t .duties)) (judgeRuns t))
+    (fault 12 (badSlice (t .ticks) (t .duties)) (length (t .duties)) (answer t))
+
+-- 11 to 17
+unfoldable pub judgeTable : Table → Outcome Table
+judgeTable t = andThen (judgeDuties t) judgeRuns
 
 -- "A table that meets none of 10 to 17 is accepted": the table in the bytes, or the refusal
 unfoldable pub accepted : List ℕ → Outcome Table
-accepted b = andThen (parse small b) judgeTable
+accepted b = andThen (readTable b) judgeTable
 
 -- "The answer is either the reading (T, engines, duties, number of runs) or a fault"
 abbrev pub readingOf : Table → Reading
 readingOf t = record { «block_length» = t .ticks; engines = t .engines; duties = length (t .duties); runs = length (t .runs) }
 
-unfoldable pub judged : List ℕ → Outcome Reading
+abbrev pub judged : List ℕ → Outcome Reading
 judged b = andThen (accepted b) (λ t. answer (readingOf t))

@@ -1,4 +1,5 @@
--- Document 01, "SA1". Where 004's step 2 gives the bounds of a split duty's second run in terms of the old time unit, this page decides: the run has what is left.
+-- Document 01, "SA1". Where 004's step 2 gives the bounds of a split duty's second run in terms of the old time unit, this page decides:
+-- the run has what is left.
 use Prim.Native.Nat.{ℕ, _+_, _-_}
 use mathlib.Core.List.{List, [], _∷_, _++_, map}
 use lib.Dec.{leb, ltb}

@@ -1,6 +1,6 @@
--- Sets of duties whose shares are not whole: 004's table 3 with its figures, refusals in their order, and sets that meet the condition of one
--- of 004's theorems 3.3 and 3.4 and are refused all the same. What can be stated of a set, what it means, and the sets. That all of it holds is
--- shown in `share_laws`, `ShareCasesHold`.
+-- Sets of duties whose shares are not whole: 004's table 3 with its figures, refusals in their order, and sets that meet the condition of
+-- one of 004's theorems 3.3 and 3.4 and are refused all the same. What can be stated of a set, what it means, and the sets. That all of it
+-- holds is shown in `share_laws`, `ShareCasesHold`.
 use Prim.Native.Nat.{ℕ, _+_, _*_, _-_, _/_, _%_, _≤_, _<_}
 use mathlib.Core.Path.{_≡_}
 use mathlib.Core.Bool.{true, false}
@@ -85,7 +85,8 @@ raisedBy s ns = tab (length ns) (λ i. let x = getD ns i (need 0 0) in (x .whole
 
 abbrev pub SaysShares : ShareCase → ShareFact → Type 0
 SaysShares c (notShared n p) = sharePlan (wantedIn c) (c .room) ≡ refused n p
-SaysShares c (sharedIn t b) = (sharePlan (wantedIn c) (c .room) ≡ answer (sharingIn c)) × (sharingIn c .ticks ≡ t) × (blocks (sharingIn c) ≡ b)
+SaysShares c (sharedIn t b) = (sharePlan (wantedIn c) (c .room) ≡ answer (sharingIn c)) × (sharingIn c .ticks ≡ t) ×
+    (blocks (sharingIn c) ≡ b)
 SaysShares c (needing b ns) = needsAt (sharingIn c) b ≡ raisedBy (sharingIn c) ns
 SaysShares c (allotted b ns) = allotments (sharingIn c) b ≡ ns
 SaysShares c (belowZero b i) = raisedUnits (sharingIn c) (needsAt (sharingIn c) b) i ≡ 0
@@ -150,8 +151,8 @@ p5Shared =
           ∷ sharedTick 0 (engine 0) (By 0) ∷ sharedTick 1 (engine 0) (By 1) ∷ sharedTick 0 (engine 1) Idle ∷ sharedLoads 6 6 ∷ [];
     }
 
--- the smallest set with 23, which also meets the condition of theorem 3.4: duty 1 was given a unit ahead, needs -1/2 in block 2, and no unit is
--- left for it
+-- the smallest set with 23, which also meets the condition of theorem 3.4: duty 1 was given a unit ahead, needs -1/2 in block 2, and no
+-- unit is left for it
 abbrev pub smallest23 : ShareCase
 smallest23 =
     record {

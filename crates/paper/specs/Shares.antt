@@ -1,5 +1,5 @@
--- Document 02, request 3: plans for duties whose share of a block is not whole, by SA2. The schedule of such a plan, its refusals, the list of
--- allotments and the direct question, and how their answers read.
+-- Document 02, request 3: plans for duties whose share of a block is not whole, by SA2. The schedule of such a plan, its refusals, the list
+-- of allotments and the direct question, and how their answers read.
 use Prim.Native.Nat.{ℕ, _+_, _*_, _-_, _/_, _%_}
 use mathlib.Core.Path.{_≡_}
 use mathlib.Core.Bool.{Bool, not, _&&_, _||_}
@@ -21,9 +21,11 @@ use Rattle.paper.specs.declared.ShareAnswer.the-variants.{Holds, Refused
 use Rattle.paper.specs.Duties.{periodsOf}
 use Rattle.paper.specs.Words.{row, heldIn, blockLengthOf}
 use Rattle.paper.specs.Schedule.{Schedule, loadsIn}
+use Rattle.paper.specs.Limits.{mostShareBlocks}
 use Rattle.paper.specs.Outcome.{Outcome, refused, answer, andThen, refusedAs, leaves}
 use Rattle.paper.specs.Bytes.{within}
 use Rattle.paper.specs.Wanted.{Wanted, taken}
+use Rattle.paper.specs.Answers.{ofEngine}
 use Rattle.paper.specs.Sa2.{Sharing, sharing, dutyCount, dutyOf, needsAt, raisedUnits, allotments, laidOut}
 
 -- ---- the schedule
@@ -74,9 +76,6 @@ failing s = first (blockFails s) (blocks s)
 
 -- ---- the refusals
 
-abbrev pub mostShareBlocks : ℕ
-mostShareBlocks = 4_096
-
 -- "22, more than 4,096 blocks up to the common multiple, after 5 and before 7; then 7"; 6 is not given here
 unfoldable pub sharable : Sharing → Outcome Sharing
 sharable s = pick (ltb mostShareBlocks (blocks s)) (refused 22 0) (pick (overloaded s) (refused 7 0) (answer s))
@@ -88,11 +87,11 @@ shared x = andThen (taken x) (λ ds. sharable (sharing (blockLengthOf ds) (x .en
 abbrev pub entriesNeeded : Sharing → ℕ
 entriesNeeded s = blocks s * dutyCount s
 
-unfoldable pub roomy : ℕ → Sharing → Outcome Sharing
+abbrev pub roomy : ℕ → Sharing → Outcome Sharing
 roomy room s = pick (ltb room (entriesNeeded s)) (refused 8 (entriesNeeded s)) (answer s)
 
 -- "23 .. placed by the first such block"
-unfoldable pub steady : Sharing → Outcome Sharing
+abbrev pub steady : Sharing → Outcome Sharing
 steady s = pick (ltb (failing s) (blocks s)) (refused 23 (failing s)) (answer s)
 
 -- ---- the builder of shares
@@ -102,7 +101,7 @@ unfoldable pub shareList : Sharing → List ℕ
 shareList s = flat (allotments s) (tab (blocks s) (λ b. b))
 
 -- with room for so many entries
-unfoldable pub sharePlan : Wanted → ℕ → Outcome Sharing
+abbrev pub sharePlan : Wanted → ℕ → Outcome Sharing
 sharePlan x room = andThen (andThen (shared x) (roomy room)) steady
 
 -- what is told of it: the entries written, the block length, the blocks
@@ -121,9 +120,9 @@ pub record GivesShares (o : Outcome Sharing) (r : SharesTold) (before after : Li
 -- ---- the direct question
 
 -- "the question gives all but 8, then 18"; "the direct question here takes engines and duties, and equals laying out each block in turn"
-unfoldable pub shareQuestion : Wanted → Engine → ℕ → Outcome Held
+abbrev pub shareQuestion : Wanted → Engine → ℕ → Outcome Held
 shareQuestion x e k =
-    andThen (andThen (shared x) steady) (λ s. pick (ltb (e .0) (s .engines)) (answer (shareSchedule s e k)) (refused 18 0))
+    andThen (andThen (shared x) steady) (λ s. ofEngine (s .engines) e (answer (shareSchedule s e k)))
 
 abbrev pub shareAnswerAs : ShareAnswer → Outcome Held
 shareAnswerAs (Holds h) = answer h

@@ -7,7 +7,7 @@ use Rattle.paper.specs.declared.Duty.{Duty}
 use Rattle.paper.specs.declared.Run.{Run}
 use Rattle.paper.specs.Duties.{dutyAt}
 use Rattle.paper.specs.Words.{stop, slice, blockLengthOf, Table, runAt}
-use Rattle.paper.specs.Bytes.{Width, mostTicks}
+use Rattle.paper.specs.Limits.{Width, mostTicks}
 use Rattle.paper.specs.Rules.{before, unitsOf}
 
 -- "period 1 to 1,000,000, service 1 to its period"
@@ -53,10 +53,13 @@ pub record Meets (t : Table) : Type 0 where
   -- 13: every run is after its forerunner by (row, first unit)
   pub in-order : (k : ℕ) → k + 1 < length (t .runs) → before (runAt (t .runs) k) (runAt (t .runs) (k + 1)) ≡ true
   -- 14: no run shares a unit with an earlier run of its row
-  pub apart-in-row : (j k : ℕ) → j < k → k < length (t .runs) → runAt (t .runs) j .row .0 ≡ runAt (t .runs) k .row .0 → Apart (runAt (t .runs) j) (runAt (t .runs) k)
+  pub apart-in-row : (j k : ℕ) → j < k → k < length (t .runs) → runAt (t .runs) j .row .0 ≡ runAt (t .runs) k .row .0
+      → Apart (runAt (t .runs) j) (runAt (t .runs) k)
   -- 15: no run starts where one of the same row and duty stops, be it earlier or later
-  pub not-joined : (j k : ℕ) → j < length (t .runs) → k < length (t .runs) → runAt (t .runs) j .row .0 ≡ runAt (t .runs) k .row .0 → runAt (t .runs) j .duty ≡ runAt (t .runs) k .duty → stop (runAt (t .runs) j) ≡ runAt (t .runs) k .first → ⊥
+  pub not-joined : (j k : ℕ) → j < length (t .runs) → k < length (t .runs) → runAt (t .runs) j .row .0 ≡ runAt (t .runs) k .row .0
+      → runAt (t .runs) j .duty ≡ runAt (t .runs) k .duty → stop (runAt (t .runs) j) ≡ runAt (t .runs) k .first → ⊥
   -- 16: no run shares a unit with an earlier run of its duty on another row
-  pub apart-of-duty : (j k : ℕ) → j < k → k < length (t .runs) → runAt (t .runs) j .duty ≡ runAt (t .runs) k .duty → (runAt (t .runs) j .row .0 ≡ runAt (t .runs) k .row .0 → ⊥) → Apart (runAt (t .runs) j) (runAt (t .runs) k)
+  pub apart-of-duty : (j k : ℕ) → j < k → k < length (t .runs) → runAt (t .runs) j .duty ≡ runAt (t .runs) k .duty
+      → (runAt (t .runs) j .row .0 ≡ runAt (t .runs) k .row .0 → ⊥) → Apart (runAt (t .runs) j) (runAt (t .runs) k)
   -- 17: the runs of each duty add up to its slice
   pub sums-right : (i : ℕ) → i < length (t .duties) → unitsOf (t .runs) i ≡ slice (t .ticks) (dutyAt (t .duties) i)

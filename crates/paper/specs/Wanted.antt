@@ -1,5 +1,5 @@
--- What is wanted of a builder, and refusals 1 to 5, with which every builder begins. "The lowest number applies, save that 4 and 5 are looked
--- for duty by duty, 4 before 5."
+-- What is wanted of a builder, and refusals 1 to 5, with which every builder begins. "The lowest number applies, save that 4 and 5 are
+-- looked for duty by duty, 4 before 5."
 use Prim.Native.Nat.{ℕ}
 use mathlib.Core.Bool.{not}
 use mathlib.Core.List.{List}
@@ -11,7 +11,8 @@ use Rattle.laws.specs.Lists.{tab}
 use Rattle.paper.specs.declared.Duty.{Duty}
 use Rattle.paper.specs.Duties.{duty, dutyAt, servicesOf, periodsOf}
 use Rattle.paper.specs.Outcome.{Outcome, refused, answer}
-use Rattle.paper.specs.Bytes.{small, mostTicks, within, dutyRanged}
+use Rattle.paper.specs.Limits.{mostEngines, mostDuties, mostTicks}
+use Rattle.paper.specs.Bytes.{within, dutyRanged}
 
 -- so many engines for the duties of two lists: "Services and periods come as two lent lists of 32-bit numbers."
 pub record Wanted : Type 0 where
@@ -34,7 +35,7 @@ abbrev pub dutySet : Wanted → List Duty
 dutySet x = dutiesOf (x .services) (x .periods)
 
 -- 4 "a period out of range", 5 "a service out of range", at the first duty that has either
-unfoldable pub badRange : List Duty → ℕ
+abbrev pub badRange : List Duty → ℕ
 badRange ds = first (λ d. not (dutyRanged (dutyAt ds d))) (length ds)
 
 abbrev pub rangeFault : {A : Type 0} → List Duty → ℕ → Outcome A
@@ -46,6 +47,6 @@ inRange ds = pick (ltb (badRange ds) (length ds)) (rangeFault ds (badRange ds)) 
 -- 1 "engines outside 1 to 32", 2 "the two lists differ in length", 3 "duties outside 1 to 64", then 4 and 5; else the duties
 unfoldable pub taken : Wanted → Outcome (List Duty)
 taken x =
-    pick (not (within 1 (small .mostEngines) (x .engines))) (refused 1 0)
+    pick (not (within 1 mostEngines (x .engines))) (refused 1 0)
     (pick (not (eqb (length (x .services)) (length (x .periods)))) (refused 2 0)
-    (pick (not (within 1 (small .mostDuties) (length (x .services)))) (refused 3 0) (inRange (dutySet x))))
+    (pick (not (within 1 mostDuties (length (x .services)))) (refused 3 0) (inRange (dutySet x))))

@@ -2,7 +2,7 @@
 -- from 0.)
 use Prim.Native.Nat.{ℕ, _+_, _*_, _/_, _%_}
 use mathlib.Core.Bool.{Bool, _&&_}
-use mathlib.Core.List.{List, [], _∷_}
+use mathlib.Core.List.{List, [], _∷_, map}
 use lib.Dec.{leb, ltb, eqb}
 use lib.ListN.{getD}
 use Rattle.laws.specs.Choice.{pick}
@@ -17,6 +17,10 @@ use Rattle.paper.specs.Duties.{periodsOf}
 -- the row of a number
 abbrev pub row : ℕ → Row
 row n = record { 0 = n }
+
+-- the numbers of rows
+abbrev pub rowNumbers : List Row → List ℕ
+rowNumbers rs = map (λ r. r .0) rs
 
 -- "The block length T is the greatest common divisor of all periods."
 unfoldable pub blockLengthOf : List Duty → ℕ

@@ -1,11 +1,22 @@
 // The words of document 01 that code and definitions share. A row is a line of the plan, an engine is the hardware:
 // two types, and the rotation alone turns one into the other.
 
+pub mod limits;
+
+use limits::MOST_DUTIES;
+use limits::MOST_ENGINES;
+
 // A line of the plan for one block.
 pub struct Row(pub u32);
 
 // A packet engine, the hardware.
 pub struct Engine(pub u32);
+
+// A maximal string of chained rows: the first of them, and how many there are.
+pub struct Chain {
+    pub first: Row,
+    pub length: u32,
+}
 
 // A duty: `service` ticks in each period of `period` ticks.
 pub struct Duty {
@@ -86,7 +97,7 @@ pub enum Answer {
 // A dispatcher's state: a block, and the row of each engine in it, 0 past the last engine.
 pub struct State {
     pub block: u64,
-    pub rows: [u32; 32],
+    pub rows: [Row; MOST_ENGINES],
 }
 
 // What a dispatcher hands back: a verdict, and the state. A refusal holds block 0 and rows all 0.
@@ -112,8 +123,8 @@ pub enum Counted {
 pub struct Input {
     pub engines: u32,
     pub duties: u32,
-    pub services: [u32; 64],
-    pub periods: [u32; 64],
+    pub services: [u32; MOST_DUTIES],
+    pub periods: [u32; MOST_DUTIES],
 }
 
 // What reading the program's input hands back: a verdict, and the input. A refusal holds an input that is all 0.
