@@ -1,5 +1,5 @@
--- The three demands on the base, as theorems on the definitions. Each is a citation; the arguments stand in the files named in the `use` lines.
--- What the code does is tied to these definitions by the contracts, each of which is an equation with one of them.
+-- The three demands on the base, as theorems on the definitions. Each is a citation; the arguments stand in the files named in the `use`
+-- lines. What the code does is tied to these definitions by the contracts, each of which is an equation with one of them.
 -- Assumes nothing.
 use Prim.Native.Nat.{ℕ, _+_, _*_, _/_, _%_, _^_, _≤_, _<_}
 use mathlib.Core.Path.{_≡_, refl}
@@ -19,27 +19,29 @@ use Rattle.paper.specs.Rotation.{link, nextOf, rowAt}
 use Rattle.paper.specs.Walk.{walk, loads}
 use Rattle.paper.specs.Schedule.{given, served, load, loadsIn}
 use Rattle.paper.specs.Outcome.{Outcome, refused, answer, andThen, leaves}
-use Rattle.paper.specs.Bytes.{small, encode}
+use Rattle.paper.specs.Limits.{small, mostBlocks}
+use Rattle.paper.specs.Bytes.{bytesOf}
 use Rattle.paper.specs.Wanted.{Wanted, wantedOf, dutySet, taken}
 use Rattle.paper.specs.Builder.{plan, build}
 use Rattle.paper.specs.Rules.{accepted, judged}
 use Rattle.paper.specs.Statements.{Ranged, Meets}
 use Rattle.paper.specs.declared.State.{State}
-use Rattle.paper.specs.Answers.{replyOf, rowsAt, stateAt, mostBlocks, question, start, rowTold, advanced, counted}
+use Rattle.paper.specs.Answers.{replyOf, rowsAt, stateAt, question, start, rowTold, advanced, counted}
 use Rattle.paper.specs.Text.{input}
 use Rattle.paper.proofs.Outcomes.{refused-leaves}
-use Rattle.paper.proofs.Rotation.{row-start, row-after}
-use Rattle.walk_laws.proofs.Service.{meets-serving, job-served, never-twice, one-engine}
+use Rattle.walk_laws.proofs.Page.{row-start, row-after, walk-is, served-jobs}
+use Rattle.walk_laws.proofs.Page as page
 use Rattle.paper.proofs.Passed.{From}
 use Rattle.plan_laws.proofs.TakenWhen.{WhenTaken, taken-when}
 use Rattle.plan_laws.proofs.PlanWhen.{When, plan-when}
 use Rattle.plan_laws.proofs.Planned.{planned-sa1, planned-wanted, WhenBuilt, built-when, built, built-accepted}
 use Rattle.table_laws.proofs.AcceptedBytes.{accepted-ranged, accepted-meets, accepted-when}
-use Rattle.plan_laws.proofs.Listed.{Listed, build-listed, judged-listed, question-listed, start-listed, row-listed, next-listed, counted-listed, input-listed}
+use Rattle.plan_laws.proofs.Listed.{Listed, build-listed, judged-listed, question-listed, start-listed, row-listed, next-listed}
+use Rattle.plan_laws.proofs.Listed.{counted-listed, input-listed}
 use Rattle.paper.proofs.Calls.{advancedBy, question-is, start-is, row-is, row-strange, next-strange, next-all, counted-is}
 
--- ---- Demand 1. "Every call takes whatever numbers and bytes arrive, ends, and either answers or refuses with the number document 01 lists. A
--- ---- refused call changes no byte of the caller's."
+-- ---- Demand 1. "Every call takes whatever numbers and bytes arrive, ends, and either answers or refuses with the number document 01
+-- ---- lists. A refused call changes no byte of the caller's."
 -- That a call takes everything and ends is in its contract, which has no `requires`; here: what the outcomes are.
 
 -- an outcome is an answer or a refusal
@@ -63,15 +65,15 @@ refusals-listed = (build-listed, judged-listed, question-listed, start-listed, r
 pub refusal-writes-nothing : (n p : ℕ) (buffer : List ℕ) → leaves (refused n p) buffer ≡ buffer
 refusal-writes-nothing = refused-leaves
 
--- ---- Demand 2. "The plan is SA1's; every duty gets exactly its service in each period, no engine two duties in a tick, no duty two engines. A
--- ---- table is accepted, whoever wrote it, exactly when it meets document 01's rules."
+-- ---- Demand 2. "The plan is SA1's; every duty gets exactly its service in each period, no engine two duties in a tick, no duty two
+-- ---- engines. A table is accepted, whoever wrote it, exactly when it meets document 01's rules."
 
 -- the plan is SA1's
 pub plan-sa1 : (x : Wanted) (t : Table) → plan x ≡ answer t → t ≡ sa1 (blockLengthOf (dutySet x)) (x .engines) (dutySet x)
 plan-sa1 = planned-sa1
 
--- what is wanted is taken, or one of refusals 1 to 5 with its place, exactly where the document says so; the same with 6 and 7 for the plan,
--- and with 8 for the bytes
+-- what is wanted is taken, or one of refusals 1 to 5 with its place, exactly where the document says so; the same with 6 and 7 for the
+-- plan, and with 8 for the bytes
 pub taken-exactly : (x : Wanted) (o : Outcome (List Duty)) → (taken x ≡ o) ↔ WhenTaken x o
 taken-exactly = taken-when
 
@@ -99,7 +101,7 @@ build-reads-back x room b h =
     }
 
 -- bytes are accepted as a table exactly when they are its bytes, every field is in range and rules 11 to 17 are met
-pub accepted-exactly : (b : List ℕ) (t : Table) → AreBytes b → (accepted b ≡ answer t) ↔ ((encode small t ≡ b) × Ranged small t × Meets t)
+pub accepted-exactly : (b : List ℕ) (t : Table) → AreBytes b → (accepted b ≡ answer t) ↔ ((bytesOf t ≡ b) × Ranged small t × Meets t)
 accepted-exactly = accepted-when
 
 module _ (b : List ℕ) (t : Table) (h : accepted b ≡ answer t) where
@@ -107,32 +109,33 @@ module _ (b : List ℕ) (t : Table) (h : accepted b ≡ answer t) where
   pub jobs-served :
       (i : ℕ) → i < length (t .duties) → (q : ℕ)
       → served (t .engines) (walk t) i (jobStart (dutyAt (t .duties) i) q) (dutyAt (t .duties) i .period) ≡ dutyAt (t .duties) i .service
-  jobs-served = job-served t (accepted-ranged b t h) (accepted-meets b t h)
+  jobs-served = served-jobs small t (accepted-ranged b t h) (accepted-meets b t h)
 
   -- exclusion: at each tick a duty runs on one engine at most. (And an engine runs one duty at most: a schedule is a function.)
   pub not-twice : (i k : ℕ) → given (t .engines) (walk t) i k ≤ 1
-  not-twice = never-twice t (accepted-ranged b t h) (accepted-meets b t h)
+  not-twice = page.not-twice small t (accepted-ranged b t h) (accepted-meets b t h)
 
   pub same-engine : (i k e d : ℕ) → walk t (engine e) k ≡ By i → walk t (engine d) k ≡ By i → e ≡ d
-  same-engine = one-engine t (meets-serving (accepted-ranged b t h) (accepted-meets b t h))
+  same-engine = page.same-engine small t (accepted-ranged b t h) (accepted-meets b t h)
 
-  -- ---- Demand 3. "For every accepted table, engine and tick, the direct answer is the one found by walking from block 0 with the published
-  -- ---- rotation; the dispatcher's rows are that walk's; the loads reported equal those counted tick by tick, up to 1,000,000,000,000 blocks."
+  -- ---- Demand 3. "For every accepted table, engine and tick, the direct answer is the one found by walking from block 0 with the
+  -- ---- published rotation; the dispatcher's rows are that walk's; the loads reported equal those counted tick by tick, up to
+  -- ---- 1,000,000,000,000 blocks."
 
   -- the walk: in block 0 engine i runs row i, and from each block to the next an engine takes the row next in the chain to the one it had;
   -- at a tick it runs what stands on its row at the tick's unit
   pub walk-rows :
-      ((e : Engine) → rowAt (link t) 0 e ≡ row (e .0)) × ((n : ℕ) (e : Engine) → rowAt (link t) (n + 1) e ≡ row (nextOf (link t) (rowAt (link t) n e .0)))
+      ((e : Engine) → rowAt (link t) 0 e ≡ row (e .0)) ×
+      ((n : ℕ) (e : Engine) → rowAt (link t) (n + 1) e ≡ row (nextOf (link t) (rowAt (link t) n e .0)))
       × ((e : Engine) (k : ℕ) → walk t e k ≡ heldIn (t .runs) (rowAt (link t) (k / t .ticks) e) (k % t .ticks))
-  unfolding walk
-  walk-rows = (row-start (link t), row-after (link t), (λ e k. refl))
+  walk-rows = (row-start (link t), row-after (link t), walk-is t)
 
   -- the question
   pub question-walks : (e : Engine) (k : ℕ) → e .0 < t .engines → question b e k ≡ answer (replyOf t e k)
   question-walks = question-is b t h
 
   -- the dispatcher: started at block k and taken over n boundaries it is at block k + n ..
-  pub dispatcher-walks : (k n : ℕ) → k + n < 2 ^ 64 → andThen (start b k) (advancedBy b n) ≡ answer (stateAt t (k + n))
+  pub dispatcher-walks : (k n : ℕ) → k + n < 2 ^ 64 → andThen (start b k) (advancedBy b n) ≡ answer (stateAt (link t) (t .engines) (k + n))
   dispatcher-walks k n l = rw (start-is b t h k) (next-all b t h n k l)
 
   -- .. and tells each engine's row there, the one that the question tells at each tick of that block
@@ -143,11 +146,12 @@ module _ (b : List ℕ) (t : Table) (h : accepted b ≡ answer t) where
 
   -- a state that is not its block's is refused
   pub strange-refused :
-      (s : State) → (s .rows ≡ rowsAt t (s .block) → ⊥)
+      (s : State) → (s .rows ≡ rowsAt (link t) (t .engines) (s .block) → ⊥)
       → ((e : Engine) → e .0 < t .engines → rowTold b s e ≡ refused 20 0) × (advanced b s ≡ refused 20 0)
   strange-refused s n = ((λ e l. row-strange b t h s e l n), next-strange b t h s n)
 
   -- the count: every engine at every tick of the blocks
-  pub count-walks : (n : ℕ) → n ≤ mostBlocks → counted b n ≡ answer (sumTo (n * t .ticks) (λ k. sumTo (t .engines) (λ e. one-if (load (walk t) (engine e) k))))
+  pub count-walks : (n : ℕ) → n ≤ mostBlocks → counted b n ≡ answer
+      (sumTo (n * t .ticks) (λ k. sumTo (t .engines) (λ e. one-if (load (walk t) (engine e) k))))
   unfolding loads loadsIn
   count-walks = counted-is b t h

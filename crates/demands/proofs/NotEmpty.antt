@@ -22,10 +22,13 @@ use Rattle.paper.specs.Rotation.{link, firstOf, nextOf, rowAt}
 use Rattle.paper.specs.Walk.{walk}
 use Rattle.paper.specs.Schedule.{served}
 use Rattle.paper.specs.Outcome.{refused, answer}
-use Rattle.paper.specs.Bytes.{small, parse, afterHead, afterRuns, headGood, dutyGood, runGood, endGood, badDuty, goodRuns, tableIn, stands, dutyIn, runIn, encode, headBytes, dutyBytes, runBytes, endBytes}
+use Rattle.paper.specs.Limits.{small, mostEngines}
+use Rattle.paper.specs.Bytes.{parse, afterHead, afterRuns, headGood, dutyGood, runGood, endGood, badDuty, goodRuns, tableIn, stands}
+use Rattle.paper.specs.Bytes.{dutyIn, runIn, encode, bytesOf, headBytes, dutyBytes, runBytes, endBytes}
 use Rattle.paper.specs.Wanted.{Wanted, wanted, dutySet, dutiesOf, badRange, inRange, taken}
 use Rattle.paper.specs.Builder.{badSlice, planAt, plan, fitted, build}
-use Rattle.paper.specs.Rules.{before, meet, unordered, overlaps, joins, twice, lowest, unitsOf, badSum, badOrder, judgeRuns, judgeTable, accepted}
+use Rattle.paper.specs.Rules.{before, meet, unordered, overlaps, joins, twice, lowest, unitsOf, badSum, badOrder, judgeRuns, judgeDuties}
+use Rattle.paper.specs.Rules.{judgeTable, accepted}
 use Rattle.paper.specs.Statements.{Meets}
 use Rattle.paper.specs.Answers.{rowsAt, advanced, question}
 use Rattle.table_laws.proofs.Bytes.{encode-bytes}
@@ -48,8 +51,10 @@ byHand =
     }
 
 -- it is accepted
-pub byHand-accepted : accepted (encode small byHand) ≡ answer byHand
-unfolding byHand accepted parse afterHead afterRuns headGood dutyGood runGood endGood badDuty goodRuns tableIn stands dutyIn runIn numAt tab encode headBytes dutyBytes runBytes endBytes flat digits judgeTable judgeRuns badOrder badSum lowest overlaps joins twice meet before unordered unitsOf whole slice badSlice blockLengthOf gcdOf gcd euclid first
+pub byHand-accepted : accepted (bytesOf byHand) ≡ answer byHand
+unfolding byHand accepted parse afterHead afterRuns tableIn stands dutyIn runIn numAt tab encode headBytes dutyBytes runBytes endBytes flat
+    digits judgeTable judgeDuties judgeRuns overlaps joins twice meet before unordered unitsOf whole slice blockLengthOf gcdOf gcd euclid
+    first
 byHand-accepted = refl
 
 -- SA1 gives these duties one run each
@@ -68,34 +73,37 @@ unfolding byHand
 byHand-unplanned x h = byHand-own (sa1-own byHand (blockLengthOf (dutySet x)) (x .engines) (dutySet x) (plan-sa1 x byHand h))
 
 -- its bytes are bytes, and it meets the rules
-pub byHand-bytes : AreBytes (encode small byHand)
+pub byHand-bytes : AreBytes (bytesOf byHand)
 byHand-bytes = encode-bytes small byHand (omega arith) (omega arith)
 
 pub byHand-meets : Meets byHand
-byHand-meets = accepted-meets (encode small byHand) byHand byHand-accepted
+byHand-meets = accepted-meets (bytesOf byHand) byHand byHand-accepted
 
 -- ---- the theorems at work
 
 -- job 5 of duty 1, which has the ticks 60 to 71, runs for 4 ticks of them
 pub job-of-byHand : served 3 (walk byHand) 1 60 12 ≡ 4
 unfolding byHand
-job-of-byHand = jobs-served (encode small byHand) byHand byHand-accepted 1 (omega arith) 5
+job-of-byHand = jobs-served (bytesOf byHand) byHand byHand-accepted 1 (omega arith) 5
 
 -- at tick 10 engine 2 runs row 2, where unit 4 is duty 0's
-pub question-of-byHand : question (encode small byHand) (engine 2) 10 ≡ answer (record { held = By 0; row = row 2 })
+pub question-of-byHand : question (bytesOf byHand) (engine 2) 10 ≡ answer (record { held = By 0; row = row 2 })
 unfolding byHand walk link heldIn covers same rowAt nextOf firstOf
-question-of-byHand = question-walks (encode small byHand) byHand byHand-accepted (engine 2) 10 (omega arith)
+question-of-byHand = question-walks (bytesOf byHand) byHand byHand-accepted (engine 2) 10 (omega arith)
 
 -- a state with no rows is refused
-pub state-of-byHand : advanced (encode small byHand) (record { block = 0; rows = [] }) ≡ refused 20 0
+pub state-of-byHand : advanced (bytesOf byHand) (record { block = 0; rows = [] }) ≡ refused 20 0
 unfolding rowsAt
 state-of-byHand =
-    strange-refused (encode small byHand) byHand byHand-accepted (record { block = 0; rows = [] })
-    (λ e. let z : 0 ≡ 32 = ap length e ∙ length-tab 32 _ in omega arith) .1
+    strange-refused (bytesOf byHand) byHand byHand-accepted (record { block = 0; rows = [] })
+    (λ e. let z : 0 ≡ mostEngines = ap length e ∙ length-tab mostEngines _ in omega arith) .1
 
 -- the builder writes P2's 30 bytes into a buffer of 30, and refuses one of 29
-pub built-p2 : (build (wanted 1 (1 ∷ []) (1 ∷ [])) 30 ≡ answer (1 ∷ 1 ∷ 0 ∷ 0 ∷ 0 ∷ 1 ∷ 1 ∷ 2 ∷ 1 ∷ 0 ∷ 0 ∷ 0 ∷ 1 ∷ 0 ∷ 0 ∷ 0 ∷ 3 ∷ 0 ∷ 0 ∷ 0 ∷ 0 ∷ 0 ∷ 0 ∷ 1 ∷ 0 ∷ 0 ∷ 0 ∷ 4 ∷ 1 ∷ 0 ∷ [])) × (build (wanted 1 (1 ∷ []) (1 ∷ [])) 29 ≡ refused 8 30)
-unfolding build fitted plan taken inRange planAt badRange badSlice sa1 lay layOne rowAfter unitAfter slice whole blockLengthOf gcdOf gcd euclid dutiesOf tab sumOf first encode headBytes dutyBytes runBytes endBytes flat digits
+pub built-p2 : (build (wanted 1 (1 ∷ []) (1 ∷ [])) 30 ≡ answer
+    (1 ∷ 1 ∷ 0 ∷ 0 ∷ 0 ∷ 1 ∷ 1 ∷ 2 ∷ 1 ∷ 0 ∷ 0 ∷ 0 ∷ 1 ∷ 0 ∷ 0 ∷ 0 ∷ 3 ∷ 0 ∷ 0 ∷ 0 ∷ 0 ∷ 0 ∷ 0 ∷ 1 ∷ 0 ∷ 0 ∷ 0 ∷ 4 ∷ 1 ∷ 0 ∷ []))
+    × (build (wanted 1 (1 ∷ []) (1 ∷ [])) 29 ≡ refused 8 30)
+unfolding plan taken inRange planAt sa1 lay layOne rowAfter unitAfter slice whole blockLengthOf gcdOf gcd euclid dutiesOf tab sumOf first
+    encode headBytes dutyBytes runBytes endBytes flat digits
 built-p2 = (refl, refl)
 
 -- ---- a plan of shares

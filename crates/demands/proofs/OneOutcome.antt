@@ -1,10 +1,11 @@
--- Each outside call's promise leaves one outcome alone: one answer, and one content of whatever was lent. A promise is an equation of what an
--- answer reads as, and each reading has a way back, so no two answers read the same; what was lent is given by an equation outright. And a
--- word of the face says what it stands for: 0 is an answer; else the low eight bits are the refusal's number and what is above them its place.
+-- Each outside call's promise leaves one outcome alone: one answer, and one content of whatever was lent. A promise is an equation of what
+-- an answer reads as, and each reading has a way back, so no two answers read the same; what was lent is given by an equation outright. And
+-- a word of the face says what it stands for: 0 is an answer; else the low eight bits are the refusal's number and what is above them its
+-- place.
 -- Assumes nothing.
 use Prim.Native.Nat.{ℕ, _+_, _*_, _≤_, _<_}
 use mathlib.Core.Path.{_≡_, refl, sym, ap, _∙_}
-use mathlib.Core.List.{List}
+use mathlib.Core.List.{List, [], _∷_}
 use mathlib.Core.Logic.{⊎-elim}
 use native.Mathlib.Omega.{arith}
 use lib.Dec.{ltb, eqb}
@@ -43,9 +44,14 @@ use Rattle.paper.specs.Answers.{answerAs, Hands, rowAs, countAs}
 use Rattle.paper.specs.Sa2.{Sharing}
 use Rattle.paper.specs.Shares.{sharesAs, GivesShares, shareAnswerAs}
 use Rattle.paper.specs.Face.{sharesCall, sharesEntries, sharesLeft, shareAtCall}
-use Rattle.paper.specs.Face.{Tells, wordOf, entries, needing, buildCall, buildEntries, judgeCall, questionCall, startCall, rowCall, nextCall, countCall}
+use Rattle.paper.specs.Limits.{wordRoom, readingRoom, replyRoom, shareReadingRoom, stateRoom}
+use Rattle.paper.specs.Duties.{engine}
+use Rattle.paper.specs.Face.{stateEntries, stateIn}
+use Rattle.paper.specs.Face.{Tells, wordOf, entries, needing, buildCall, buildEntries, judgeCall, questionCall, startCall, rowCall}
+use Rattle.paper.specs.Face.{nextCall, countCall}
 use Rattle.paper.proofs.Outcomes.{answered, refused-one}
-use Rattle.plan_laws.proofs.Listed.{Listed, judged-listed, build-listed, question-listed, start-listed, row-listed, next-listed, counted-listed}
+use Rattle.plan_laws.proofs.Listed.{Listed, judged-listed, build-listed, question-listed, start-listed, row-listed, next-listed}
+use Rattle.plan_laws.proofs.Listed.{counted-listed}
 use Rattle.share_laws.proofs.SharesListed.{shares-listed, share-question-listed}
 
 -- ---- the way back, from an outcome to the answer that reads as it
@@ -122,7 +128,8 @@ pub judged-one : {x y : Judged} {o : Outcome Reading} → judgedAs x ≡ o → j
 judged-one p q = one-to-one judgedAs (answerFor (λ r. Bad (fault-of r)) Accepted) judged-back (p ∙ sym q)
 
 -- whatever writes: the builder, and the text of a plan
-pub written-one : {o : Outcome (List ℕ)} {x y : Written} {before a b : List ℕ} → Writes o x before a → Writes o y before b → (x ≡ y) × (a ≡ b)
+pub written-one : {o : Outcome (List ℕ)} {x y : Written} {before a b : List ℕ} → Writes o x before a → Writes o y before b → (x ≡ y)
+    × (a ≡ b)
 written-one p q = (one-to-one writtenAs (answerFor NotWritten Length) written-back (p .said ∙ sym (q .said)), p .left ∙ sym (q .left))
 
 -- the question
@@ -134,7 +141,8 @@ pub dispatched-one : {o : Outcome State} {x y : Dispatched} → Hands o x → Ha
 dispatched-one {o} {x} {y} p q =
     let s : x .state ≡ y .state = p .holds ∙ sym (q .holds) in
     let v : x .verdict ≡ y .verdict =
-    one-to-one (λ w. verdictAs w (y .state)) (answerFor NotDone (λ a. Done)) (verdict-back (y .state)) (ap (verdictAs (x .verdict)) (sym s) ∙ p .said ∙ sym (q .said)) in
+    one-to-one (λ w. verdictAs w (y .state)) (answerFor NotDone (λ a. Done)) (verdict-back (y .state))
+    (ap (verdictAs (x .verdict)) (sym s) ∙ p .said ∙ sym (q .said)) in
     λ i. record { verdict = v i; state = s i }
 
 pub row-told-one : {x y : RowTold} {o : Outcome Row} → rowAs x ≡ o → rowAs y ≡ o → x ≡ y
@@ -145,7 +153,8 @@ pub counted-one : {x y : Counted} {o : Outcome ℕ} → countAs x ≡ o → coun
 counted-one p q = one-to-one countAs (answerFor NoCount Loads) count-back (p ∙ sym q)
 
 -- the builder of shares, and the question to its plan
-pub shares-one : {o : Outcome Sharing} {x y : SharesTold} {before a b : List ℕ} → GivesShares o x before a → GivesShares o y before b → (x ≡ y) × (a ≡ b)
+pub shares-one : {o : Outcome Sharing} {x y : SharesTold} {before a b : List ℕ} → GivesShares o x before a → GivesShares o y before b
+    → (x ≡ y) × (a ≡ b)
 shares-one p q = (one-to-one sharesAs (answerFor NotGiven Given) shares-back (p .said ∙ sym (q .said)), p .left ∙ sym (q .left))
 
 pub share-answer-one : {x y : ShareAnswer} {o : Outcome Held} → shareAnswerAs x ≡ o → shareAnswerAs y ≡ o → x ≡ y
@@ -211,47 +220,44 @@ numbered-entries f (answer a) g n p e = answered (f a) n p e
 -- ---- and so has each call's
 
 pub build-numbered : (x : Wanted) (table lent : List ℕ) → Numbered (buildCall x table lent)
-unfolding buildCall
-build-numbered x table lent = numbered-needing 1 lent _ (numbered-listed _ (λ n l. omega arith) (build-listed x (length table)))
+build-numbered x table lent = numbered-needing wordRoom lent _ (numbered-listed _ (λ n l. omega arith) (build-listed x (length table)))
 
 pub judge-numbered : (b lent : List ℕ) → Numbered (judgeCall b lent)
-unfolding judgeCall
-judge-numbered b lent = numbered-needing 4 lent _ (numbered-entries _ _ (numbered-listed _ (λ n l. omega arith) (judged-listed b)))
+judge-numbered b lent = numbered-needing readingRoom lent _
+    (numbered-entries _ _ (numbered-listed _ (λ n l. omega arith) (judged-listed b)))
 
 pub question-numbered : (b : List ℕ) (e k : ℕ) (lent : List ℕ) → Numbered (questionCall b e k lent)
-unfolding questionCall
-question-numbered b e k lent = numbered-needing 2 lent _ (numbered-entries _ _ (numbered-listed _ (λ n l. omega arith) (question-listed b _ k)))
+question-numbered b e k lent = numbered-needing replyRoom lent _
+    (numbered-entries _ _ (numbered-listed _ (λ n l. omega arith) (question-listed b _ k)))
 
 pub start-numbered : (b : List ℕ) (k : ℕ) (lent : List ℕ) → Numbered (startCall b k lent)
-unfolding startCall
-start-numbered b k lent = numbered-needing 33 lent _ (numbered-entries _ _ (numbered-listed _ (λ n l. omega arith) (start-listed b k)))
+start-numbered b k lent = numbered-needing stateRoom lent _
+    (numbered-entries _ _ (numbered-listed _ (λ n l. omega arith) (start-listed b k)))
 
 pub row-numbered : (b state : List ℕ) (e : ℕ) (lent : List ℕ) → Numbered (rowCall b state e lent)
-unfolding rowCall
 row-numbered b state e lent =
-    numbered-needing 33 state _ (numbered-needing 1 lent _
-    (numbered-entries _ _ (numbered-listed _ (λ n. ⊎-elim (λ l. omega arith) (λ l. omega arith)) (row-listed b _ _))))
+    numbered-needing stateRoom state _ (numbered-needing wordRoom lent _
+    (numbered-entries (λ r. r .0 ∷ []) _
+    (numbered-listed _ (λ n. ⊎-elim (λ l. omega arith) (λ l. omega arith)) (row-listed b (stateIn state) (engine e)))))
 
 pub next-numbered : (b state : List ℕ) → Numbered (nextCall b state)
-unfolding nextCall
 next-numbered b state =
-    numbered-needing 33 state _ (numbered-entries _ _ (numbered-listed _ (λ n. ⊎-elim (λ l. omega arith) (λ l. omega arith)) (next-listed b _)))
+    numbered-needing stateRoom state _ (numbered-entries stateEntries _
+    (numbered-listed _ (λ n. ⊎-elim (λ l. omega arith) (λ l. omega arith)) (next-listed b (stateIn state))))
 
 pub count-numbered : (b : List ℕ) (k : ℕ) (lent : List ℕ) → Numbered (countCall b k lent)
-unfolding countCall
 count-numbered b k lent =
-    numbered-needing 1 lent _ (numbered-entries _ _ (numbered-listed _ (λ n. ⊎-elim (λ l. omega arith) (λ l. omega arith)) (counted-listed b k)))
+    numbered-needing wordRoom lent _
+    (numbered-entries _ _ (numbered-listed _ (λ n. ⊎-elim (λ l. omega arith) (λ l. omega arith)) (counted-listed b k)))
 
 pub shares-numbered : (x : Wanted) (list lent : List ℕ) → Numbered (sharesCall x list lent)
-unfolding sharesCall
 shares-numbered x list lent =
-    numbered-needing 3 lent _
+    numbered-needing shareReadingRoom lent _
     (numbered-listed _ (λ n. ⊎-elim (λ l. omega arith) (⊎-elim (λ l. omega arith) (λ l. omega arith))) (shares-listed x (length list)))
 
 pub share-at-numbered : (x : Wanted) (e k : ℕ) (lent : List ℕ) → Numbered (shareAtCall x e k lent)
-unfolding shareAtCall
 share-at-numbered x e k lent =
-    numbered-needing 1 lent _
+    numbered-needing wordRoom lent _
     (numbered-entries _ _
     (numbered-listed _
     (λ n. ⊎-elim (λ l. omega arith) (⊎-elim (λ l. omega arith) (⊎-elim (λ l. omega arith) (λ l. omega arith))))

@@ -1,6 +1,6 @@
--- Plans of shares (document 02, request 3), as theorems on the definitions, each a citation. "Demand 2's service rule holds for every plan given.
--- Demand 3 reads without rotation: the direct question here takes engines and duties, and equals laying out each block in turn, repeating after
--- the common multiple."
+-- Plans of shares (document 02, request 3), as theorems on the definitions, each a citation. "Demand 2's service rule holds for every plan
+-- given. Demand 3 reads without rotation: the direct question here takes engines and duties, and equals laying out each block in turn,
+-- repeating after the common multiple."
 -- Assumes nothing.
 use Prim.Native.Nat.{ℕ, _+_, _*_, _-_, _/_, _%_, _≤_, _<_}
 use mathlib.Core.Path.{_≡_, refl}
@@ -86,8 +86,8 @@ need-is = need-closed
 pub need-above : (s : Sharing) (i : ℕ) → i < dutyCount s → (b : ℕ) → 0 < dutyOf s i .period → 1 ≤ needOf s b i
 need-above = need-least
 
--- units are out of range only where they are -1, never above T; and a job that ends is other than its service only where the duty has -1 units
--- or an earlier block fails: these two causes never come up alone
+-- units are out of range only where they are -1, never above T; and a job that ends is other than its service only where the duty has -1
+-- units or an earlier block fails: these two causes never come up alone
 pub above-never :
     (s : Sharing) → InBlocks s → (b i : ℕ) → i < dutyCount s → offRange s b i ≡ true → raisedUnits s (needsAt s b) i ≡ 0
 above-never = never-above

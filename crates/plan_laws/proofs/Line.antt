@@ -8,9 +8,10 @@ use Prim.Native.Nat.{ℕ, zero, suc, _+_, _*_, _-_, _≤_, _<_}
 use mathlib.Core.Path.{_≡_, refl, sym, ap, _∙_}
 use mathlib.Core.Bool.{false}
 use mathlib.Core.List.{List, [], _∷_}
-use native.Mathlib.Nat.{zero-add, add-zero, zero-mul, add-assoc, not-suc-le-zero, le-of-suc-le-suc, mul-le-mul-right, lt-of-mul-lt-mul-right}
+use native.Mathlib.Nat.{zero-add, add-zero, zero-mul, add-assoc, not-suc-le-zero, le-of-suc-le-suc, mul-le-mul-right}
+use native.Mathlib.Nat.{lt-of-mul-lt-mul-right}
 use native.Mathlib.Omega.{arith}
-use lib.ListN.{length, getD, take}
+use lib.ListN.{length, getD, take, drop, drop-of-length-le}
 use borrow.Author.Tests.{eq-eqb, ne-eqb, lt-ltb, le-ltb, le-leb, lt-leb}
 use Rattle.laws.specs.Choice.{pick, one-if}
 use Rattle.laws.specs.Lists.{sumOf}
@@ -151,3 +152,21 @@ module _ (t : ℕ) (ns : List ℕ) (h : Each (λ n. n ≤ t) ns) (k : ℕ) (l : 
   laid-all m a =
       sum-ext t (rowsHeld t m ns k) (rowsSpanned t m (startOf ns k) (getD ns k 0)) (laid-rows m)
       ∙ span-all t m (startOf ns k) (getD ns k 0) (omega (arith, start-within ns k l))
+
+-- ---- who has a place, duty after duty
+
+-- the duties from i on, by whether the place is before the end of duty i's stretch
+module _ (n : ℕ) (ns : List ℕ) (i s p : ℕ) (a : s ≤ p) where
+  line-step : onLine (n ∷ ns) i s p ≡ pick (spans s n p) (By i) (onLine ns (i + 1) (s + n) p)
+  unfolding onLine
+  line-step = refl
+
+  pub first-has : p < s + n → onLine (n ∷ ns) i s p ≡ By i
+  first-has h = line-step ∙ rw (le-leb s p a, lt-ltb p (s + n) h)
+
+  pub first-not : s + n ≤ p → onLine (n ∷ ns) i s p ≡ onLine ns (i + 1) (s + n) p
+  first-not h = line-step ∙ rw (le-leb s p a, le-ltb p (s + n) h)
+
+pub none-has : (ns : List ℕ) (i s p : ℕ) → length ns ≤ i → onLine (drop i ns) i s p ≡ Idle
+unfolding onLine
+none-has ns i s p h = rw (drop-of-length-le ns h)

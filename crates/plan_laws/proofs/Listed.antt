@@ -1,5 +1,5 @@
--- Each call comes to an answer or to a refusal whose number document 01 lists for that call, and whose place is within the bound on places: it
--- is a duty, a run or a line, of which there are few, or an offset or a length within a table of few duties and runs.
+-- Each call comes to an answer or to a refusal whose number document 01 lists for that call, and whose place is within the bound on places:
+-- it is a duty, a run or a line, of which there are few, or an offset or a length within a table of few duties and runs.
 -- Assumes nothing.
 use Prim.Native.Nat.{ℕ, _+_, _*_, _-_, _^_, _≤_, _<_}
 use mathlib.Core.Path.{_≡_, refl, sym, ap}
@@ -11,28 +11,34 @@ use lib.Dec.{ltb, eqb}
 use lib.ListN.{length}
 use borrow.Author.Tests.{ltb-true, ltb-false, not-true, not-false}
 use Rattle.laws.specs.Choice.{pick}
-use Rattle.laws.specs.Lists.{same-list, sumOf}
+use Rattle.laws.specs.Lists.{sumOf}
 use Rattle.laws.proofs.Search.{first-le}
 use Rattle.laws.proofs.Cases.{and-right}
 use Rattle.paper.specs.declared.Engine.{Engine}
 use Rattle.paper.specs.declared.Duty.{Duty}
 use Rattle.paper.specs.Words.{Table, blockLengthOf}
-use Rattle.paper.specs.Outcome.{Outcome, refused, answer, andThen, mostPlace}
-use Rattle.paper.specs.Bytes.{small, encode, runPlace, endLength, dutyPlace, dutiesIn, headGood, endGood, runGood, badDuty, goodRuns, tableIn, afterRuns, afterHead, parse}
+use Rattle.paper.specs.Limits.{mostPlace, small, endLength, mostBlocks, lastBlock, mostDuties, mostInput}
+use Rattle.paper.specs.Outcome.{Outcome, refused, answer, andThen}
+use Rattle.paper.specs.Bytes.{encode, runPlace, dutyPlace, dutiesIn, headGood, endGood, runGood, badDuty, goodRuns, tableIn, afterRuns}
+use Rattle.paper.specs.Bytes.{afterHead, parse}
 use Rattle.paper.specs.Wanted.{Wanted, wantedOf, dutySet, taken}
 use Rattle.paper.specs.Builder.{badSlice, planAt, plan, fitted, build}
 use Rattle.paper.specs.declared.State.{State}
-use Rattle.paper.specs.Answers.{rowsAt, stateAt, mostBlocks, question, start, rowTold, advanced, counted}
+use Rattle.paper.specs.Answers.{stateAt, isState, question, start, rowTold, advanced, counted}
+use Rattle.paper.specs.Rotation.{link}
 use Rattle.paper.specs.Walk.{loads}
 use Rattle.paper.specs.Sa1.{slices}
-use Rattle.paper.specs.Rules.{fault, judged, readingOf, lowest, overlaps, joins, twice, badSum, badOrder, judgeRuns, judgeTable, accepted}
-use Rattle.paper.specs.Text.{Lines, none, line, linesOf, engineLineGood, enginesRead, dutyLineGood, dutyRead, dutiesFrom, inputOf, mostInput, input}
+use Rattle.table_laws.proofs.Accepted.{duties-same}
+use Rattle.paper.specs.Rules.{fault, judged, readingOf, lowest, overlaps, joins, twice, badSum, badOrder, judgeRuns, judgeDuties}
+use Rattle.paper.specs.Rules.{judgeTable, accepted}
+use Rattle.paper.specs.Text.{Lines, none, line, linesOf, engineLineGood, enginesRead, dutyLineGood, dutyRead, dutiesFrom, inputOf, input}
 use Rattle.paper.specs.Statements.{Ranged}
 use Rattle.paper.proofs.Outcomes.{answered, refused-one}
 use Rattle.table_laws.proofs.Bytes.{length-encode}
 use Rattle.paper.proofs.Passed.{From, head-told}
 use Rattle.table_laws.proofs.Read.{parse-ranged}
-use Rattle.plan_laws.proofs.TakenWhen.{Counts, WhenTaken, engines-out, lengths-differ, duties-out, period-out, service-out, all-taken, taken-when, taken-told}
+use Rattle.plan_laws.proofs.TakenWhen.{Counts, WhenTaken, engines-out, lengths-differ, duties-out, period-out, service-out}
+use Rattle.plan_laws.proofs.TakenWhen.{all-taken, taken-when, taken-told}
 use Rattle.plan_laws.proofs.Planned.{length-duties, planned-ranged}
 
 -- ---- refusals with listed numbers
@@ -68,14 +74,16 @@ module _ {A : Type 0} (P : ℕ → Type 0) where
   listed-else b x n l h r = listed-pick b x (refused n 0) (λ p. r) (λ p. listed-refused n 0 l h (omega arith))
 
   -- a fault at one of few places
-  listed-fault : (number place count : ℕ) (rest : Outcome A) → P number → number < 256 → count ≤ mostPlace → Listed P rest → Listed P (fault number place count rest)
+  listed-fault : (number place count : ℕ) (rest : Outcome A) → P number → number < 256 → count ≤ mostPlace → Listed P rest
+      → Listed P (fault number place count rest)
   listed-fault number place count rest l b c r =
       listed-pick (ltb place count) (refused number place) rest
       (λ h. listed-refused number place l b (omega (arith, ltb-true place count h)))
       (λ h. r)
 
 -- one outcome after another
-listed-then : {A B : Type 0} (P : ℕ → Type 0) (o : Outcome A) (f : A → Outcome B) → Listed P o → ((a : A) → o ≡ answer a → Listed P (f a)) → Listed P (andThen o f)
+listed-then : {A B : Type 0} (P : ℕ → Type 0) (o : Outcome A) (f : A → Outcome B) → Listed P o → ((a : A) → o ≡ answer a → Listed P (f a))
+    → Listed P (andThen o f)
 listed-then P (refused k q) f l g n p e = let z = refused-one k q n p e in l n p (rw (z .0, z .1))
 listed-then P (answer a) f l g n p e = g a refl n p e
 
@@ -87,7 +95,6 @@ listed-more i o l n p e = let z = l n p e in record { listed = i n (z .listed); 
 
 -- at most 128 runs are read
 runs-few : (b : List ℕ) (n : ℕ) → goodRuns small b n ≤ 128
-unfolding goodRuns
 runs-few b n = first-le (λ k. not (runGood small b (runPlace small n k))) 128
 
 -- 10
@@ -110,23 +117,37 @@ parse-listed b =
     form : (p : ℕ) → p ≤ mostPlace → Listed {A = Table} (From 10 17) (refused 10 p)
     form p h = listed-refused (From 10 17) 10 p (omega arith) (omega arith) h
 
--- 11 to 17
-judge-listed : (t : Table) → Ranged small t → Listed (From 10 17) (judgeTable t)
-unfolding judgeTable judgeRuns
-judge-listed t r =
+-- 11 and 12
+duties-listed : (t : Table) → Ranged small t → Listed (From 10 17) (judgeDuties t)
+unfolding judgeDuties
+duties-listed t r =
+    let P = From 10 17 in
+    listed-pick P (not (eqb (t .ticks) (blockLengthOf (t .duties)))) _ _
+    (λ h. listed-refused P 11 0 (omega arith) (omega arith) (omega arith))
+    (λ h. listed-fault P 12 (badSlice (t .ticks) (t .duties)) (length (t .duties)) _ (omega arith) (omega arith)
+    (omega (arith, r .duties-most))
+    (listed-answer P t))
+
+-- 13 to 17
+runs-listed : (t : Table) → Ranged small t → Listed (From 10 17) (judgeRuns t)
+unfolding judgeRuns
+runs-listed t r =
     let P = From 10 17 in
     let xs = length (t .runs) in
     let ds = length (t .duties) in
     let runs : xs ≤ mostPlace = omega (arith, r .runs-most) in
     let duties : ds ≤ mostPlace = omega (arith, r .duties-most) in
-    listed-pick P (not (eqb (t .ticks) (blockLengthOf (t .duties)))) _ _ (λ h. listed-refused P 11 0 (omega arith) (omega arith) (omega arith))
-    (λ h. listed-fault P 12 (badSlice (t .ticks) (t .duties)) ds _ (omega arith) (omega arith) duties
     (listed-fault P 13 (badOrder t) xs _ (omega arith) (omega arith) runs
     (listed-fault P 14 (lowest overlaps (t .runs)) xs _ (omega arith) (omega arith) runs
     (listed-fault P 15 (lowest joins (t .runs)) xs _ (omega arith) (omega arith) runs
     (listed-fault P 16 (lowest twice (t .runs)) xs _ (omega arith) (omega arith) runs
     (listed-fault P 17 (badSum t) ds _ (omega arith) (omega arith) duties
-    (listed-answer P t)))))))
+    (listed-answer P t))))))
+
+judge-listed : (t : Table) → Ranged small t → Listed (From 10 17) (judgeTable t)
+unfolding judgeTable
+judge-listed t r =
+    listed-then (From 10 17) (judgeDuties t) judgeRuns (duties-listed t r) (λ s e. rw (duties-same t s e) (runs-listed t r))
 
 pub accepted-listed : (b : List ℕ) → Listed (From 10 17) (accepted b)
 unfolding accepted
@@ -134,8 +155,8 @@ accepted-listed b = listed-then (From 10 17) (parse small b) judgeTable (parse-l
 
 -- 10 to 17 for the judge
 pub judged-listed : (b : List ℕ) → Listed (From 10 17) (judged b)
-unfolding judged
-judged-listed b = listed-then (From 10 17) (accepted b) (λ t. answer (readingOf t)) (accepted-listed b) (λ t e. listed-answer (From 10 17) (readingOf t))
+judged-listed b = listed-then (From 10 17) (accepted b) (λ t. answer (readingOf t)) (accepted-listed b)
+    (λ t e. listed-answer (From 10 17) (readingOf t))
 
 -- ---- the builder
 
@@ -163,7 +184,8 @@ unfolding planAt
 plan-at-listed t m ds few =
     let P = From 1 7 in
     listed-fault P 6 (badSlice t ds) (length ds) _ (omega arith) (omega arith) few
-    (listed-pick P (ltb (m * t) (sumOf (slices t ds))) _ _ (λ h. listed-refused P 7 0 (omega arith) (omega arith) (omega arith)) (λ h. listed-answer P _))
+    (listed-pick P (ltb (m * t) (sumOf (slices t ds))) _ _ (λ h. listed-refused P 7 0 (omega arith) (omega arith) (omega arith))
+    (λ h. listed-answer P _))
 
 plan-listed : (x : Wanted) → Listed (From 1 7) (plan x)
 unfolding plan
@@ -174,56 +196,55 @@ plan-listed x =
 
 -- 1 to 8 for its bytes
 pub build-listed : (x : Wanted) (room : ℕ) → Listed (From 1 8) (build x room)
-unfolding build fitted
 build-listed x room =
     let P = From 1 8 in
     listed-then P (plan x) _ (listed-more (λ n l. omega arith) (plan x) (plan-listed x))
     (λ t e.
     let r = planned-ranged x t e in
     listed-pick P (ltb room (length (encode small t))) _ _
-    (λ h. listed-refused P 8 (length (encode small t)) (omega arith) (omega arith) (omega (arith, length-encode small t, r .duties-most, r .runs-most)))
+    (λ h. listed-refused P 8 (length (encode small t)) (omega arith) (omega arith)
+    (omega (arith, length-encode small t, r .duties-most, r .runs-most)))
     (λ h. listed-answer P (encode small t)))
 
 -- ---- what is asked of a table
 
 -- 10 to 17, then what the call adds
-after-judge : {A : Type 0} (P : ℕ → Type 0) → ((n : ℕ) → From 10 17 n → P n) → (b : List ℕ) (f : Table → Outcome A) → ((t : Table) → Listed P (f t)) → Listed P (andThen (accepted b) f)
+after-judge : {A : Type 0} (P : ℕ → Type 0) → ((n : ℕ) → From 10 17 n → P n) → (b : List ℕ) (f : Table → Outcome A)
+    → ((t : Table) → Listed P (f t)) → Listed P (andThen (accepted b) f)
 after-judge P i b f g = listed-then P (accepted b) f (listed-more i (accepted b) (accepted-listed b)) (λ t e. g t)
 
 -- 10 to 18 for the question
 pub question-listed : (b : List ℕ) (e : Engine) (k : ℕ) → Listed (From 10 18) (question b e k)
-unfolding question
 question-listed b e k =
-    after-judge (From 10 18) (λ n l. omega arith) b _ (λ t. listed-else (From 10 18) (ltb (e .0) (t .engines)) _ 18 (omega arith) (omega arith) (listed-answer (From 10 18) _))
+    after-judge (From 10 18) (λ n l. omega arith) b _
+    (λ t. listed-else (From 10 18) (ltb (e .0) (t .engines)) _ 18 (omega arith) (omega arith) (listed-answer (From 10 18) _))
 
 -- 10 to 17 for a dispatcher's start
 pub start-listed : (b : List ℕ) (k : ℕ) → Listed (From 10 17) (start b k)
-unfolding start
-start-listed b k = after-judge (From 10 17) (λ n l. l) b _ (λ t. listed-answer (From 10 17) (stateAt t k))
+start-listed b k = after-judge (From 10 17) (λ n l. l) b _ (λ t. listed-answer (From 10 17) (stateAt (link t) (t .engines) k))
 
 -- 10 to 18 and 20 for an engine's row
 pub row-listed : (b : List ℕ) (s : State) (e : Engine) → Listed (λ n. From 10 18 n ⊎ (n ≡ 20)) (rowTold b s e)
-unfolding rowTold
 row-listed b s e =
     let P : ℕ → Type 0 = λ n. From 10 18 n ⊎ (n ≡ 20) in
     after-judge P (λ n l. inl (omega arith)) b _ (λ t. listed-else P (ltb (e .0) (t .engines)) _ 18 (inl (omega arith)) (omega arith)
-    (listed-else P (same-list (s .rows) (rowsAt t (s .block))) _ 20 (inr refl) (omega arith) (listed-answer P _)))
+    (listed-else P (isState (link t) (t .engines) s) _ 20 (inr refl) (omega arith) (listed-answer P _)))
 
 -- 10 to 17, 20 and 21 for the next state
 pub next-listed : (b : List ℕ) (s : State) → Listed (λ n. From 10 17 n ⊎ From 20 21 n) (advanced b s)
-unfolding advanced
 next-listed b s =
     let P : ℕ → Type 0 = λ n. From 10 17 n ⊎ From 20 21 n in
-    after-judge P (λ n l. inl l) b _ (λ t. listed-else P (same-list (s .rows) (rowsAt t (s .block))) _ 20 (inr (omega arith)) (omega arith)
-    (listed-pick P (eqb (s .block) (2 ^ 64 - 1)) _ _ (λ h. listed-refused P 21 0 (inr (omega arith)) (omega arith) (omega arith)) (λ h. listed-answer P (stateAt t (s .block + 1)))))
+    after-judge P (λ n l. inl l) b _ (λ t. listed-else P (isState (link t) (t .engines) s) _ 20 (inr (omega arith)) (omega arith)
+    (listed-pick P (eqb (s .block) lastBlock) _ _ (λ h. listed-refused P 21 0 (inr (omega arith)) (omega arith) (omega arith))
+    (λ h. listed-answer P (stateAt (link t) (t .engines) (s .block + 1)))))
 
 -- 10 to 17 and 19 for the count
 pub counted-listed : (b : List ℕ) (n : ℕ) → Listed (λ n. From 10 17 n ⊎ (n ≡ 19)) (counted b n)
-unfolding counted
 counted-listed b k =
     let P : ℕ → Type 0 = λ n. From 10 17 n ⊎ (n ≡ 19) in
     after-judge P (λ n l. inl l) b _ (λ t.
-    listed-pick P (ltb mostBlocks k) _ _ (λ h. listed-refused P 19 0 (inr refl) (omega arith) (omega arith)) (λ h. listed-answer P (loads t k)))
+    listed-pick P (ltb mostBlocks k) _ _ (λ h. listed-refused P 19 0 (inr refl) (omega arith) (omega arith))
+    (λ h. listed-answer P (loads t k)))
 
 -- ---- the program's input
 
@@ -233,15 +254,17 @@ unfolding dutiesFrom
 lines-listed n none h = listed-answer (λ k. k ≡ 9) []
 lines-listed n (line c ended ls) h =
     let P : ℕ → Type 0 = λ k. k ≡ 9 in
-    listed-pick P (ended && dutyLineGood c && not (ltb (small .mostDuties + 1) n)) _ _
+    listed-pick P (ended && dutyLineGood c && not (ltb (mostDuties + 1) n)) _ _
     (λ g. listed-then P (dutiesFrom (n + 1) ls) _ (lines-listed (n + 1) ls
-    (omega (arith, ltb-false (small .mostDuties + 1) n (not-true (ltb (small .mostDuties + 1) n) (and-right (ended && dutyLineGood c) _ g))))) (λ ds e. listed-answer P (dutyRead c ∷ ds)))
+    (omega (arith, ltb-false (mostDuties + 1) n (not-true (ltb (mostDuties + 1) n) (and-right (ended && dutyLineGood c) _ g)))))
+    (λ ds e. listed-answer P (dutyRead c ∷ ds)))
     (λ g. listed-refused P 9 n refl (omega arith) (omega arith))
 
 -- 9 for the input
 pub input-listed : (b : List ℕ) → Listed (λ k. k ≡ 9) (input b)
-unfolding input inputOf
-input-listed b = listed-pick (λ k. k ≡ 9) (ltb mostInput (length b)) _ _ (λ h. listed-refused (λ k. k ≡ 9) 9 0 refl (omega arith) (omega arith)) (λ h. go (linesOf b))
+unfolding input
+input-listed b = listed-pick (λ k. k ≡ 9) (ltb mostInput (length b)) _ _
+    (λ h. listed-refused (λ k. k ≡ 9) 9 0 refl (omega arith) (omega arith)) (λ h. go (linesOf b))
   where
     go : (ls : Lines) → Listed (λ k. k ≡ 9) (inputOf ls)
     go none = listed-refused (λ k. k ≡ 9) 9 1 refl (omega arith) (omega arith)

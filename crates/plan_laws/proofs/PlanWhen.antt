@@ -1,5 +1,5 @@
--- When the builder plans what was taken, and when it refuses with 6 or 7. Each of its tests decides one of the document's conditions, and it
--- goes down the tests in order, so each outcome comes about exactly where the earlier conditions are clear and its own holds.
+-- When the builder plans what was taken, and when it refuses with 6 or 7. Each of its tests decides one of the document's conditions, and
+-- it goes down the tests in order, so each outcome comes about exactly where the earlier conditions are clear and its own holds.
 -- Assumes nothing.
 use Prim.Native.Nat.{ℕ, _*_, _≤_, _<_}
 use mathlib.Core.Path.{_≡_, refl, sym, ap, _∙_}
@@ -41,7 +41,8 @@ pub data When (x : Wanted) (o : Outcome Table) : Type 0 where
   slice-broken : (d : ℕ) → o ≡ refused 6 d → Taken x → Lowest (Whole (blockOf x) (dutySet x)) (length (dutySet x)) d → When x o
   -- 7 the slices add up to more than engines·T
   too-much :
-      o ≡ refused 7 0 → Taken x → Wholes (blockOf x) (dutySet x) → x .engines * blockOf x < sumOf (slices (blockOf x) (dutySet x)) → When x o
+      o ≡ refused 7 0 → Taken x → Wholes (blockOf x) (dutySet x) → x .engines * blockOf x < sumOf (slices (blockOf x) (dutySet x))
+      → When x o
   -- else SA1's table
   planned : o ≡ answer (sa1 (blockOf x) (x .engines) (dutySet x)) → Fitting x → When x o
 
@@ -63,7 +64,7 @@ module _ (x : Wanted) where
 
   -- what comes after 5
   after-taken : (o : Outcome Table) → Taken x → o ≡ planAt t m ds → When x o
-  unfolding planAt badSlice
+  unfolding planAt
   after-taken o c q =
       by-cases (ltb (badSlice t ds) (length ds))
       (λ h. slice-broken (badSlice t ds) (q ∙ rw h) c (lowest-found slice-decides (length ds) h))
@@ -90,12 +91,12 @@ module _ (x : Wanted) where
   past-taken c = rw (takes x c)
 
   past-slices : Taken x → Wholes t ds → plan x ≡ pick (ltb (m * t) (sumOf (slices t ds))) (refused 7 0) (answer (sa1 t m ds))
-  unfolding planAt badSlice
+  unfolding planAt
   past-slices c w = past-taken c ∙ rw (slices-met t ds .1 w)
 
   -- a slice that is not whole is met first
   bad-slice : (d : ℕ) → Lowest (Whole t ds) (length ds) d → planAt t m ds ≡ refused 6 d
-  unfolding planAt badSlice
+  unfolding planAt
   bad-slice d l = rw (found-lowest slice-decides (length ds) d l, lt-ltb d (length ds) (l .0))
 
   -- .. and comes about where that holds
@@ -109,3 +110,19 @@ module _ (x : Wanted) where
   -- the builder's outcome is the one whose condition holds
   pub plan-when : (o : Outcome Table) → (plan x ≡ o) ↔ When x o
   plan-when o = (plan-tells o, told-plan o)
+
+-- ---- 6 and what follows it, by any block length, for what goes through the tests one by one
+
+module _ (t m : ℕ) (ds : List Duty) (d : ℕ) (e : d ≡ badSlice t ds) where
+  -- 6 and 7 in their order, by the duty that a search has found
+  plan-by :
+      planAt t m ds
+      ≡ pick (ltb d (length ds)) (refused 6 d) (pick (ltb (m * t) (sumOf (slices t ds))) (refused 7 0) (answer (sa1 t m ds)))
+  unfolding planAt
+  plan-by = rw e
+
+  pub slice-refused : d < length ds → planAt t m ds ≡ refused 6 d
+  slice-refused h = plan-by ∙ rw (lt-ltb d (length ds) h)
+
+  pub slices-taken : length ds ≤ d → planAt t m ds ≡ pick (ltb (m * t) (sumOf (slices t ds))) (refused 7 0) (answer (sa1 t m ds))
+  slices-taken h = plan-by ∙ rw (le-ltb d (length ds) h)

@@ -10,14 +10,16 @@ use native.Mathlib.Omega.{arith}
 use lib.Dec.{ltb}
 use lib.ListN.{length, getD}
 use borrow.Author.Tests.{lt-ltb, le-ltb, ltb-true, ltb-false}
+use Rattle.laws.specs.Divisor.{gcdOf}
 use Rattle.laws.proofs.Cases.{by-cases}
-use Rattle.laws.proofs.Lists.{length-tab, map-tab, tab-getD}
+use Rattle.laws.proofs.Lists.{length-tab, getD-tab, map-tab, tab-getD}
 use Rattle.paper.specs.declared.Duty.{Duty}
-use Rattle.paper.specs.Duties.{duty, servicesOf, periodsOf}
+use Rattle.paper.specs.Duties.{duty, dutyAt, servicesOf, periodsOf}
 use Rattle.paper.specs.Words.{blockLengthOf, Table}
 use Rattle.paper.specs.Sa1.{sa1}
 use Rattle.paper.specs.Outcome.{Outcome, refused, answer, andThen}
-use Rattle.paper.specs.Bytes.{small, encode}
+use Rattle.paper.specs.Limits.{small}
+use Rattle.paper.specs.Bytes.{encode}
 use Rattle.paper.specs.Wanted.{Wanted, wantedOf, dutiesOf, dutySet}
 use Rattle.paper.specs.Builder.{plan, fitted, build}
 use Rattle.paper.specs.Rules.{accepted}
@@ -110,7 +112,8 @@ module _ (x : Wanted) (t : Table) (h : plan x ≡ answer t) where
   planned-wanted =
       let c = planned-when x t .0 h .0 .taken .counts in
       let m : t .engines ≡ x .engines = ap (λ (y : Table). y .engines) planned-sa1 in
-      let s : servicesOf (t .duties) ≡ x .services = ap (λ (y : Table). servicesOf (y .duties)) planned-sa1 ∙ services-back (x .services) (x .periods) in
+      let s : servicesOf (t .duties) ≡ x .services = ap (λ (y : Table). servicesOf (y .duties)) planned-sa1 ∙ services-back (x .services)
+      (x .periods) in
       let p : periodsOf (t .duties) ≡ x .periods =
       ap (λ (y : Table). periodsOf (y .duties)) planned-sa1 ∙ periods-back (x .services) (x .periods) (c .lengths) in
       λ i. record { engines = m i; services = s i; periods = p i }
@@ -122,14 +125,14 @@ pub data WhenBuilt (x : Wanted) (room : ℕ) (o : Outcome (List ℕ)) : Type 0 w
   -- 1 to 7
   not-planned : (n p : ℕ) → plan x ≡ refused n p → o ≡ refused n p → WhenBuilt x room o
   -- 8 buffer shorter than the table, at the bytes needed
-  too-short : (t : Table) → plan x ≡ answer t → room < length (encode small t) → o ≡ refused 8 (length (encode small t)) → WhenBuilt x room o
+  too-short : (t : Table) → plan x ≡ answer t → room < length (encode small t) → o ≡ refused 8 (length (encode small t))
+      → WhenBuilt x room o
   -- else the table's bytes
   written : (t : Table) → plan x ≡ answer t → length (encode small t) ≤ room → o ≡ answer (encode small t) → WhenBuilt x room o
 
 module _ (x : Wanted) (room : ℕ) where
   -- every outcome has its condition
   built-tells : (o : Outcome (List ℕ)) → build x room ≡ o → WhenBuilt x room o
-  unfolding build fitted
   built-tells o = go (plan x) refl
     where
       go : (y : Outcome Table) → plan x ≡ y → andThen y (λ t. fitted room (encode small t)) ≡ o → WhenBuilt x room o
@@ -141,7 +144,6 @@ module _ (x : Wanted) (room : ℕ) where
 
   -- and comes about where that holds
   told-built : (o : Outcome (List ℕ)) → WhenBuilt x room o → build x room ≡ o
-  unfolding build fitted
   told-built o (not-planned n p h q) = rw h (sym q)
   told-built o (too-short t h l q) = rw (h, lt-ltb room (length (encode small t)) l) (sym q)
   told-built o (written t h l q) = rw (h, le-ltb room (length (encode small t)) l) (sym q)
@@ -172,3 +174,15 @@ pub built-accepted : (x : Wanted) (room : ℕ) (b : List ℕ) (h : build x room 
 built-accepted x room b h =
     let r = built x room b h in
     rw (r .bytes) at (planned-accepted x (r .table) (r .plans))
+
+-- ---- the duties of two lists, one by one
+
+-- duty i has the entries at i
+pub duty-is : (ss ps : List ℕ) (i : ℕ) → i < length ss → dutyAt (dutiesOf ss ps) i ≡ duty (getD ss i 0) (getD ps i 0)
+unfolding dutiesOf
+duty-is ss ps i h = getD-tab (length ss) (λ d. duty (getD ss d 0) (getD ps d 0)) (duty 0 0) i h
+
+-- their block length is the greatest common divisor of the periods
+pub block-length-is : (ss ps : List ℕ) → length ss ≡ length ps → blockLengthOf (dutiesOf ss ps) ≡ gcdOf ps
+unfolding blockLengthOf
+block-length-is ss ps e = ap gcdOf (periods-back ss ps e)

@@ -3,8 +3,8 @@
 -- run starts a new row and stops before its first run's unit, since a slice is at most T.
 -- Assumes nothing.
 use Prim.Native.Nat.{ℕ, _+_, _*_, _-_, _≤_, _<_}
-use mathlib.Core.Path.{_≡_}
-use mathlib.Core.List.{List, [], _∷_}
+use mathlib.Core.Path.{_≡_, refl}
+use mathlib.Core.List.{List, [], _∷_, _++_}
 use native.Mathlib.Nat.{not-suc-le-zero, lt-of-mul-lt-mul-right}
 use native.Mathlib.Omega.{arith}
 use lib.Dec.{leb, ltb}
@@ -32,7 +32,8 @@ lay-cases t n ns i r u a b P fits splits =
     by-cases (leb (u + n) t)
     (λ p. by-cases (ltb (u + n) t)
     (λ q. rw (p, q) (fits r (u + n) (omega arith) (omega arith) (omega (arith, ltb-true)) (omega (arith, leb-true))))
-    (λ q. rw (p, q) (fits (r + 1) (u + n - t) (omega arith) (omega (arith, leb-true, ltb-false)) (omega (arith, leb-true, ltb-false)) (omega (arith, leb-true)))))
+    (λ q. rw (p, q) (fits (r + 1) (u + n - t) (omega arith) (omega (arith, leb-true, ltb-false)) (omega (arith, leb-true, ltb-false))
+    (omega (arith, leb-true)))))
     (λ p. by-cases (ltb (u + n) t) (λ q. absurd (omega (arith, leb-false, ltb-true)))
     (λ q. rw (p, q) (splits (u + n - t) (omega (arith, leb-false)) (omega (arith, leb-false)) (omega (arith, leb-false)))))
 
@@ -63,7 +64,8 @@ laid-between t (n ∷ ns) i r u a h =
     (λ r′ u′ b e c d. (omega arith, rest r′ u′ e (laid-between t ns (i + 1) r′ u′ c (h .1))))
     (λ u′ e c d. (omega arith, (omega arith, rest (r + 1) u′ (omega arith) (laid-between t ns (i + 1) (r + 1) u′ c (h .1)))))
   where
-    rest : (r′ u′ : ℕ) → r′ * t + u′ ≡ r * t + u + n → Each (Of t ns (i + 1) r′ u′) (lay t ns (i + 1) r′ u′) → Each (Of t (n ∷ ns) i r u) (lay t ns (i + 1) r′ u′)
+    rest : (r′ u′ : ℕ) → r′ * t + u′ ≡ r * t + u + n → Each (Of t ns (i + 1) r′ u′) (lay t ns (i + 1) r′ u′)
+        → Each (Of t (n ∷ ns) i r u) (lay t ns (i + 1) r′ u′)
     rest r′ u′ e l = each-map (Of t ns (i + 1) r′ u′) (Of t (n ∷ ns) i r u) (λ x k. omega arith) (lay t ns (i + 1) r′ u′) l
 
 -- each run follows all runs before it
@@ -79,7 +81,9 @@ follows t (n ∷ ns) i r u a h =
     ))
   where
     ahead : (r₁ u₁ l r′ u′ : ℕ) → u′ < t → r₁ * t + u₁ + l ≤ r′ * t + u′ → Each (Follows t (run r₁ i u₁ l)) (lay t ns (i + 1) r′ u′)
-    ahead r₁ u₁ l r′ u′ c e = each-map (Of t ns (i + 1) r′ u′) (Follows t (run r₁ i u₁ l)) (λ x k. record { after = omega arith; split = λ s. omega arith }) (lay t ns (i + 1) r′ u′) (laid-between t ns (i + 1) r′ u′ c (h .1))
+    ahead r₁ u₁ l r′ u′ c e = each-map (Of t ns (i + 1) r′ u′) (Follows t (run r₁ i u₁ l))
+        (λ x k. record { after = omega arith; split = λ s. omega arith }) (lay t ns (i + 1) r′ u′)
+        (laid-between t ns (i + 1) r′ u′ c (h .1))
 
 -- at most one run more than duties for each row but the first
 pub few-runs :
@@ -95,3 +99,15 @@ few-runs t m (n ∷ (n′ ∷ ns)) i r u a h s z =
     lay-cases t n (n′ ∷ ns) i r u a (h .0 .1) (λ xs. length xs + r + 1 ≤ length (n ∷ n′ ∷ ns) + m)
     (λ r′ u′ b e c d. omega (arith, few-runs t m (n′ ∷ ns) (i + 1) r′ u′ c (h .1) (omega arith) (omega arith)))
     (λ u′ e c d. omega (arith, few-runs t m (n′ ∷ ns) (i + 1) (r + 1) u′ c (h .1) (omega arith) (omega arith)))
+
+-- ---- slice by slice: one, then the others from the place after it
+
+pub lay-step :
+    (t n : ℕ) (ns : List ℕ) (i r u : ℕ)
+    → lay t (n ∷ ns) i r u ≡ layOne t n i r u ++ lay t ns (i + 1) (rowAfter t n r u) (unitAfter t n u)
+unfolding lay
+lay-step t n ns i r u = refl
+
+pub lay-end : (t i r u : ℕ) → lay t [] i r u ≡ []
+unfolding lay
+lay-end t i r u = refl

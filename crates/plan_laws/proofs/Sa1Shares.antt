@@ -90,7 +90,8 @@ few-splits t m ns a h s fit =
     omega (
       arith,
       few-runs t m ns 0 0 0 a h s (omega arith),
-      runs-counted (length ns) xs (each-map (Of t ns 0 0 0) (λ x. x .duty < length ns) (λ x l. omega arith) xs (laid-between t ns 0 0 0 a h)),
+      runs-counted (length ns) xs
+          (each-map (Of t ns 0 0 0) (λ x. x .duty < length ns) (λ x l. omega arith) xs (laid-between t ns 0 0 0 a h)),
       sum-le (length ns) (λ i. 1 + one-if (isSplit xs i)) (runsOf xs) split,
       sum-plus (length ns) (λ i. 1) (λ i. one-if (isSplit xs i)),
       sum-const (length ns) 1,

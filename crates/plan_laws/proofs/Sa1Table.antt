@@ -6,7 +6,8 @@ use Prim.Native.Nat.{ℕ, _+_, _*_, _≤_, _<_, _∣_}
 use mathlib.Core.Path.{_≡_, sym, ap, _∙_}
 use mathlib.Core.Bool.{true}
 use mathlib.Core.List.{List}
-use native.Mathlib.Nat.{le-div-iff-mul-le, div-le-of-le-mul, le-of-dvd, mul-pos, mul-le-mul-left, lt-of-mul-lt-mul-right, mul-zero, zero-add}
+use native.Mathlib.Nat.{le-div-iff-mul-le, div-le-of-le-mul, le-of-dvd, mul-pos, mul-le-mul-left, lt-of-mul-lt-mul-right, mul-zero}
+use native.Mathlib.Nat.{zero-add}
 use native.Mathlib.Omega.{arith}
 use lib.ListN.{length, getD, length-map, List·getD-map}
 use Rattle.laws.specs.Choice.{one-if}
@@ -19,7 +20,7 @@ use Rattle.paper.specs.declared.Run.{Run}
 use Rattle.paper.specs.Duties.{duty, dutyAt}
 use Rattle.paper.specs.Words.{run, stop, slice, blockLengthOf, runAt}
 use Rattle.paper.specs.Sa1.{lay, slices, sa1}
-use Rattle.paper.specs.Bytes.{Width, mostTicks}
+use Rattle.paper.specs.Limits.{Width, mostTicks}
 use Rattle.paper.specs.Rules.{before, unitsOf}
 use Rattle.paper.specs.Statements.{DutyRanged, RunRanged, Ranged, Apart, Meets}
 use Rattle.paper.proofs.Passed.{Ranges}
@@ -76,12 +77,14 @@ module _ (w : Width) (t m : ℕ) (ds : List Duty) (f : Fits w t m ds) where
   -- run k by itself
   run-laid : (k : ℕ) → k < length (sa1 t m ds .runs) → Of t (slices t ds) 0 0 0 (runAt (sa1 t m ds .runs) k)
   unfolding sa1
-  run-laid k h = each-at (Of t (slices t ds) 0 0 0) (run 0 0 0 0) (lay t (slices t ds) 0 0 0) (laid-between t (slices t ds) 0 0 0 (f .ticks-least) all-slices) k h
+  run-laid k h = each-at (Of t (slices t ds) 0 0 0) (run 0 0 0 0) (lay t (slices t ds) 0 0 0)
+      (laid-between t (slices t ds) 0 0 0 (f .ticks-least) all-slices) k h
 
   -- run k with an earlier one
   run-follows : (j k : ℕ) → j < k → k < length (sa1 t m ds .runs) → Follows t (runAt (sa1 t m ds .runs) j) (runAt (sa1 t m ds .runs) k)
   unfolding sa1
-  run-follows j k l h = pairs-at (Follows t) (run 0 0 0 0) (lay t (slices t ds) 0 0 0) (follows t (slices t ds) 0 0 0 (f .ticks-least) all-slices) j k l h
+  run-follows j k l h = pairs-at (Follows t) (run 0 0 0 0) (lay t (slices t ds) 0 0 0)
+      (follows t (slices t ds) 0 0 0 (f .ticks-least) all-slices) j k l h
 
   -- every run is in range
   pub sa1-run-ranged : (k : ℕ) → k < length (sa1 t m ds .runs) → RunRanged t m (length ds) (runAt (sa1 t m ds .runs) k)
@@ -98,7 +101,12 @@ module _ (w : Width) (t m : ℕ) (ds : List Duty) (f : Fits w t m ds) where
   pub sa1-few-runs : length (sa1 t m ds .runs) + 1 ≤ length ds + m
   unfolding sa1
   sa1-few-runs =
-      omega (arith, length-map ds (slice t), few-runs t m (slices t ds) 0 0 0 (f .ticks-least) all-slices (omega (arith, f .duties-least, length-map ds (slice t))) (omega (arith, f .slices-fit)))
+      omega (
+        arith,
+        length-map ds (slice t),
+        few-runs t m (slices t ds) 0 0 0 (f .ticks-least) all-slices
+            (omega (arith, f .duties-least, length-map ds (slice t))) (omega (arith, f .slices-fit)),
+      )
 
   -- fewer duties are split than there are engines
   pub sa1-few-splits : sumTo (length ds) (λ i. one-if (isSplit (sa1 t m ds .runs) i)) + 1 ≤ m
@@ -126,7 +134,8 @@ module _ (w : Width) (t m : ℕ) (ds : List Duty) (f : Fits w t m ds) where
   -- rule 13
   pub sa1-in-order : InOrder (sa1 t m ds .runs)
   sa1-in-order k h =
-      before-after t _ _ (run-follows k (k + 1) (omega arith) h) (run-laid k (omega arith) .some-units) (run-laid (k + 1) h .some-units) (run-laid (k + 1) h .inside)
+      before-after t _ _ (run-follows k (k + 1) (omega arith) h) (run-laid k (omega arith) .some-units) (run-laid (k + 1) h .some-units)
+      (run-laid (k + 1) h .inside)
 
   -- rule 14
   pub sa1-apart-in-row : RowsApart (sa1 t m ds .runs)
@@ -139,12 +148,15 @@ module _ (w : Width) (t m : ℕ) (ds : List Duty) (f : Fits w t m ds) where
       (λ e. omega (arith, run-laid j a .some-units, ap (λ (i : ℕ). runAt (sa1 t m ds .runs) i .first) e))
 
   -- rule 16
-  pub sa1-apart-of-duty : (j k : ℕ) → j < k → k < length (sa1 t m ds .runs) → runAt (sa1 t m ds .runs) j .duty ≡ runAt (sa1 t m ds .runs) k .duty
-      → (runAt (sa1 t m ds .runs) j .row .0 ≡ runAt (sa1 t m ds .runs) k .row .0 → ⊥) → Apart (runAt (sa1 t m ds .runs) j) (runAt (sa1 t m ds .runs) k)
+  pub sa1-apart-of-duty : (j k : ℕ) → j < k → k < length (sa1 t m ds .runs) → runAt (sa1 t m ds .runs) j .duty
+      ≡ runAt (sa1 t m ds .runs) k .duty
+      → (runAt (sa1 t m ds .runs) j .row .0 ≡ runAt (sa1 t m ds .runs) k .row .0 → ⊥)
+      → Apart (runAt (sa1 t m ds .runs) j) (runAt (sa1 t m ds .runs) k)
   sa1-apart-of-duty j k l h d r u p q = omega (arith, run-follows j k l h .split d)
 
   -- rule 17
-  pub sa1-sums : (i : ℕ) → i < length (sa1 t m ds .duties) → unitsOf (sa1 t m ds .runs) i ≡ slice (sa1 t m ds .ticks) (dutyAt (sa1 t m ds .duties) i)
+  pub sa1-sums : (i : ℕ) → i < length (sa1 t m ds .duties) → unitsOf (sa1 t m ds .runs) i
+      ≡ slice (sa1 t m ds .ticks) (dutyAt (sa1 t m ds .duties) i)
   unfolding sa1
   sa1-sums i h = units-laid t (slices t ds) 0 0 0 i i (f .ticks-least) all-slices (zero-add i) ∙ slices-at t ds i
 

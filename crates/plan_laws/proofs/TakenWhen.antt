@@ -1,21 +1,23 @@
--- When what is wanted is taken, and when it is refused with 1 to 5, and at which place. Each test decides one of the document's conditions, and
--- they are gone through in order, so each outcome comes about exactly where the earlier conditions are clear and its own holds.
+-- When what is wanted is taken, and when it is refused with 1 to 5, and at which place. Each test decides one of the document's conditions,
+-- and they are gone through in order, so each outcome comes about exactly where the earlier conditions are clear and its own holds.
 -- Assumes nothing.
-use Prim.Native.Nat.{ℕ}
-use mathlib.Core.Path.{_≡_, sym, _∙_}
+use Prim.Native.Nat.{ℕ, _≤_, _<_}
+use mathlib.Core.Path.{_≡_, refl, sym, ap, _∙_}
+use mathlib.Core.Bool.{true, false}
 use mathlib.Core.List.{List}
 use mathlib.Core.Logic.{_↔_}
 use lib.Dec.{ltb, eqb}
 use lib.ListN.{length}
-use borrow.Author.Tests.{lt-ltb, eqb-true, eq-eqb, eqb-false, ne-eqb}
+use borrow.Author.Tests.{lt-ltb, le-ltb, eqb-true, eq-eqb, eqb-false, ne-eqb}
 use Rattle.laws.specs.Choice.{pick}
 use Rattle.laws.proofs.Cases.{by-cases}
 use Rattle.laws.proofs.Decides.{Decides, Not, Lowest, fails, failed, lowest-found, found-lowest, none-found}
 use Rattle.paper.specs.declared.Duty.{Duty}
 use Rattle.paper.specs.Duties.{dutyAt}
 use Rattle.paper.specs.Outcome.{Outcome, refused, answer}
-use Rattle.paper.specs.Bytes.{small, mostTicks, within, dutyRanged}
-use Rattle.paper.specs.Wanted.{Wanted, dutySet, badRange, inRange, taken}
+use Rattle.paper.specs.Limits.{small, mostEngines, mostDuties, mostTicks}
+use Rattle.paper.specs.Bytes.{within, dutyRanged}
+use Rattle.paper.specs.Wanted.{Wanted, dutySet, badRange, rangeFault, inRange, taken}
 use Rattle.paper.proofs.Outcomes.{answered, answer-one}
 use Rattle.paper.proofs.Passed.{From, InRange, Ranges, within-told, within-decides, duty-decides}
 
@@ -37,7 +39,8 @@ pub data WhenTaken (x : Wanted) (o : Outcome (List Duty)) : Type 0 where
   -- 1 engines outside 1 to 32
   engines-out : o ≡ refused 1 0 → Not (From 1 (small .mostEngines) (x .engines)) → WhenTaken x o
   -- 2 the two lists differ in length
-  lengths-differ : o ≡ refused 2 0 → From 1 (small .mostEngines) (x .engines) → Not (length (x .services) ≡ length (x .periods)) → WhenTaken x o
+  lengths-differ : o ≡ refused 2 0 → From 1 (small .mostEngines) (x .engines) → Not (length (x .services) ≡ length (x .periods))
+      → WhenTaken x o
   -- 3 duties outside 1 to 64
   duties-out :
       o ≡ refused 3 0 → From 1 (small .mostEngines) (x .engines) → length (x .services) ≡ length (x .periods)
@@ -78,7 +81,7 @@ module _ (x : Wanted) where
 
   -- what comes after 3
   after-counts : (o : Outcome (List Duty)) → Counts x → o ≡ inRange ds → WhenTaken x o
-  unfolding inRange badRange
+  unfolding inRange
   after-counts o c q =
       by-cases (ltb (badRange ds) (length ds))
       (λ h.
@@ -97,7 +100,8 @@ module _ (x : Wanted) where
       let e2 = eqb ns np in
       let e3 = within 1 (small .mostDuties) ns in
       by-cases e1 (λ a. by-cases e2 (λ b. by-cases e3
-      (λ c. after-counts o (record { engines = engines-decides .0 a; lengths = eqb-true ns np b; duties = duties-decides .0 c }) (sym q ∙ rw (a, b, c)))
+      (λ c. after-counts o (record { engines = engines-decides .0 a; lengths = eqb-true ns np b; duties = duties-decides .0 c })
+      (sym q ∙ rw (a, b, c)))
       (λ c. duties-out (sym q ∙ rw (a, b, c)) (engines-decides .0 a) (eqb-true ns np b) (fails e3 duties-decides c)))
       (λ b. lengths-differ (sym q ∙ rw (a, b)) (engines-decides .0 a) (eqb-false ns np b)))
       (λ a. engines-out (sym q ∙ rw a) (fails e1 engines-decides a))
@@ -108,13 +112,14 @@ module _ (x : Wanted) where
   past-counts c = rw (engines-decides .1 (c .engines), eq-eqb ns np (c .lengths), duties-decides .1 (c .duties))
 
   -- a duty out of range is met first
-  bad-range : (d : ℕ) → Lowest (InRange ds) (length ds) d → inRange ds ≡ pick (within 1 mostTicks (dutyAt ds d .period)) (refused 5 d) (refused 4 d)
-  unfolding inRange badRange
+  bad-range : (d : ℕ) → Lowest (InRange ds) (length ds) d → inRange ds
+      ≡ pick (within 1 mostTicks (dutyAt ds d .period)) (refused 5 d) (refused 4 d)
+  unfolding inRange
   bad-range d l = rw (found-lowest range-decides (length ds) d l, lt-ltb d (length ds) (l .0))
 
   -- where none is, the duties are taken
   pub takes : Taken x → taken x ≡ answer ds
-  unfolding inRange badRange
+  unfolding inRange
   takes c = past-counts (c .counts) ∙ rw (none-found range-decides (length ds) .1 (c .ranges))
 
   -- .. and comes about where that holds
@@ -122,8 +127,10 @@ module _ (x : Wanted) where
   unfolding taken
   told-taken o (engines-out q n) = rw (failed (within 1 (small .mostEngines) (x .engines)) engines-decides n) (sym q)
   told-taken o (lengths-differ q a n) = rw (engines-decides .1 a, ne-eqb ns np n) (sym q)
-  told-taken o (duties-out q a b n) = rw (engines-decides .1 a, eq-eqb ns np b, failed (within 1 (small .mostDuties) ns) duties-decides n) (sym q)
-  told-taken o (period-out d q c l n) = past-counts c ∙ bad-range d l ∙ rw (failed (within 1 mostTicks (dutyAt ds d .period)) (within-decides 1 mostTicks (dutyAt ds d .period)) n) (sym q)
+  told-taken o (duties-out q a b n) = rw (engines-decides .1 a, eq-eqb ns np b, failed (within 1 (small .mostDuties) ns) duties-decides n)
+      (sym q)
+  told-taken o (period-out d q c l n) = past-counts c ∙ bad-range d l ∙ rw
+      (failed (within 1 mostTicks (dutyAt ds d .period)) (within-decides 1 mostTicks (dutyAt ds d .period)) n) (sym q)
   told-taken o (service-out d q c l p) = past-counts c ∙ bad-range d l ∙ rw (within-decides 1 mostTicks (dutyAt ds d .period) .1 p) (sym q)
   told-taken o (all-taken q c) = takes c ∙ sym q
 
@@ -142,3 +149,33 @@ module _ (x : Wanted) where
       go (period-out d q c e n) = answered l 4 d q
       go (service-out d q c e n) = answered l 5 d q
       go (all-taken q c) = (c, answer-one l ds q)
+
+  -- ---- the same for what goes through the tests one by one
+
+  pub engines-refused : within 1 mostEngines (x .engines) ≡ false → taken x ≡ refused 1 0
+  engines-refused h = told-taken (refused 1 0) (engines-out refl (fails (within 1 mostEngines (x .engines)) engines-decides h))
+
+  module _ (m : within 1 mostEngines (x .engines) ≡ true) where
+    pub lengths-refused : Not (ns ≡ np) → taken x ≡ refused 2 0
+    lengths-refused h = told-taken (refused 2 0) (lengths-differ refl (engines-decides .0 m) h)
+
+    pub duties-refused : ns ≡ np → within 1 mostDuties ns ≡ false → taken x ≡ refused 3 0
+    duties-refused e h =
+        told-taken (refused 3 0) (duties-out refl (engines-decides .0 m) e (fails (within 1 mostDuties ns) duties-decides h))
+
+    -- past 3
+    pub counts-good : ns ≡ np → within 1 mostDuties ns ≡ true → Counts x
+    counts-good e h = record { engines = engines-decides .0 m; lengths = e; duties = duties-decides .0 h }
+
+  module _ (c : Counts x) (d : ℕ) (e : d ≡ badRange ds) where
+    -- 4 or 5, of the first duty that has either
+    pub range-refused : d < length ds → taken x ≡ rangeFault ds d
+    range-refused h =
+        let found : ltb (badRange ds) (length ds) ≡ true = ap (λ (k : ℕ). ltb k (length ds)) (sym e) ∙ lt-ltb d (length ds) h in
+        past-counts c ∙ bad-range (badRange ds) (lowest-found range-decides (length ds) found) ∙ ap (rangeFault ds) (sym e)
+
+    -- else the duties
+    pub ranges-taken : length ds ≤ d → taken x ≡ answer ds
+    ranges-taken h =
+        let none : ltb (badRange ds) (length ds) ≡ false = ap (λ (k : ℕ). ltb k (length ds)) (sym e) ∙ le-ltb d (length ds) h in
+        takes (record { counts = c; ranges = none-found range-decides (length ds) .0 none })

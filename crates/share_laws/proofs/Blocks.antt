@@ -1,6 +1,6 @@
--- The blocks up to the common multiple. It is the least common multiple of the periods: each divides it, and it divides whatever they all divide.
--- The block length divides every period, so it divides the common multiple, which is a whole number of blocks. The duties that were taken are
--- such duties.
+-- The blocks up to the common multiple. It is the least common multiple of the periods: each divides it, and it divides whatever they all
+-- divide. The block length divides every period, so it divides the common multiple, which is a whole number of blocks. The duties that were
+-- taken are such duties.
 -- Assumes nothing.
 use Prim.Native.Nat.{ℕ, _*_, _<_, _∣_}
 use mathlib.Core.Path.{_≡_}
@@ -69,4 +69,9 @@ module _ (x : Wanted) (t : Taken x) where
 
   -- and their periods are whole numbers of blocks
   pub taken-in-blocks : InBlocks (sharingOf x)
-  taken-in-blocks = record { ranges = t .ranges; ticks-some = block-least (dutySet x) taken-some (t .ranges); ticks-divides = block-divides (dutySet x) }
+  taken-in-blocks = record {
+    ranges = t .ranges;
+    ticks-some = block-least (dutySet x) taken-some (t .ranges);
+    ticks-divides =
+        block-divides (dutySet x);
+  }

@@ -1,5 +1,6 @@
--- Why a cut finds the chosen. How many want a unit before a duty only grows from duty to duty. So once F or more want one before some duty, F or
--- more do before every later one: the duties before which fewer than F want a unit are just those before the first that is not so, the cut.
+-- Why a cut finds the chosen. How many want a unit before a duty only grows from duty to duty. So once F or more want one before some duty,
+-- F or more do before every later one: the duties before which fewer than F want a unit are just those before the first that is not so, the
+-- cut.
 -- Assumes nothing.
 use Prim.Native.Nat.{ℕ, _+_, _-_, _≤_, _<_}
 use mathlib.Core.Path.{_≡_, sym, ap, _∙_}
@@ -36,7 +37,8 @@ module _ (s : Sharing) (ws : List ℕ) where
   unfolding wantingTo
   wanting-grows i j h =
       let e : j ≡ i + (j - i) = omega arith in
-      let split : sumTo j wanted ≡ sumTo i wanted + sumTo (j - i) (λ k. wanted (i + k)) = ap (λ (n : ℕ). sumTo n wanted) e ∙ sum-split i (j - i) wanted in
+      let split : sumTo j wanted ≡ sumTo i wanted + sumTo (j - i) (λ k. wanted (i + k)) =
+      ap (λ (n : ℕ). sumTo n wanted) e ∙ sum-split i (j - i) wanted in
       omega (arith, split)
 
   -- a cut is one of the duties, or how many there are

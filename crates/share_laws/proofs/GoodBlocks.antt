@@ -1,5 +1,5 @@
--- When a block of shares is good, in plain words: where none of 23's three causes holds of it. Each cause is a test over the duties or a sum, so
--- the test of the whole block decides it. What 23 finds is then the lowest block that is not good, and it finds none where all are.
+-- When a block of shares is good, in plain words: where none of 23's three causes holds of it. Each cause is a test over the duties or a
+-- sum, so the test of the whole block decides it. What 23 finds is then the lowest block that is not good, and it finds none where all are.
 -- Assumes nothing.
 use Prim.Native.Nat.{ℕ, _+_, _*_, _%_, _≤_, _<_, _∣_}
 use mathlib.Core.Path.{_≡_, sym, ap, _∙_}
@@ -67,7 +67,8 @@ module _ (s : Sharing) (b : ℕ) where
   unfolding blockFails offRange tooFull
   told-good g =
       let range : any (offRange s b) n ≡ false =
-      clear-none (offRange s b) n (λ i l. ap not (within-decides 1 (s .ticks + 1) (raisedUnits s (needsAt s b) i) .1 (g .units-ranged i l))) in
+      clear-none (offRange s b) n
+      (λ i l. ap not (within-decides 1 (s .ticks + 1) (raisedUnits s (needsAt s b) i) .1 (g .units-ranged i l))) in
       let full : tooFull s b ≡ false = le-ltb (s .engines * s .ticks) (sumOf (allotments s b)) (g .fits) in
       let service : any (offService s b) n ≡ false = clear-none (offService s b) n (λ i l. told-service i (g .jobs-served i l)) in
       rw (range, full, service)

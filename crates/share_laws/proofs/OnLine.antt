@@ -1,5 +1,6 @@
--- A block of SA2 is SA1's layout of its allotments, none of which is above T. So it lies on the line of SA1 (`plan_laws`, `Line`): who holds
--- unit u of row e is whoever's stretch has the place e·T + u. An engine keeps its row, so the schedule is read off the line of the tick's block.
+-- A block of SA2 is SA1's layout of its allotments, none of which is above T. So it lies on the line of SA1 (`plan_laws`, `Line`): who
+-- holds unit u of row e is whoever's stretch has the place e·T + u. An engine keeps its row, so the schedule is read off the line of the
+-- tick's block.
 -- Assumes nothing.
 use Prim.Native.Nat.{ℕ, _+_, _*_, _-_, _/_, _%_, _≤_, _<_}
 use mathlib.Core.Path.{_≡_}

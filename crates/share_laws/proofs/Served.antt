@@ -1,7 +1,7 @@
--- What a plan of shares that is given serves, for ever. Its blocks are good, and each is laid out by SA1 on its own line: so a duty is on one
--- engine at most in a tick, and over a block it gets what it is allotted. A period is a whole number n of blocks, and n divides the number of
--- blocks up to the common multiple, after which the allotments begin again. So job q has the blocks of job q mod z, where z is how many jobs of
--- the duty there are up to the common multiple. That job ends with a good block, so it has had its service.
+-- What a plan of shares that is given serves, for ever. Its blocks are good, and each is laid out by SA1 on its own line: so a duty is on
+-- one engine at most in a tick, and over a block it gets what it is allotted. A period is a whole number n of blocks, and n divides the
+-- number of blocks up to the common multiple, after which the allotments begin again. So job q has the blocks of job q mod z, where z is
+-- how many jobs of the duty there are up to the common multiple. That job ends with a good block, so it has had its service.
 -- Assumes nothing.
 use Prim.Native.Nat.{ℕ, _+_, _*_, _-_, _/_, _%_, _≤_, _<_, _∣_}
 use mathlib.Core.Path.{_≡_, refl, sym, ap, _∙_}
@@ -26,7 +26,8 @@ use Rattle.share_laws.proofs.Steps.{periodOf, unitsIn, InBlocks}
 use Rattle.share_laws.proofs.OnLine.{allotments-length, allotments-most}
 use Rattle.share_laws.proofs.Blocks.{sharingOf, taken-some, taken-in-blocks, blocks-some, blocks-divided}
 use Rattle.share_laws.proofs.GoodBlocks.{AllGood}
-use Rattle.share_laws.proofs.SharesWhen.{Sharable, shared-told, steady-when, WhenShares, not-shared, list-short, block-bad, shares-given, shares-when}
+use Rattle.share_laws.proofs.SharesWhen.{Sharable, shared-told, steady-when, WhenShares, not-shared, list-short, block-bad}
+use Rattle.share_laws.proofs.SharesWhen.{shares-given, shares-when}
 use Rattle.share_laws.proofs.SharesWhen.{WhenAsked, nothing-shared, block-fails, engine-out, answered-so, asked-when}
 
 -- what is known of a plan that is given: whole periods of blocks, up to a common multiple, and every block good
@@ -129,7 +130,8 @@ module _ (s : Sharing) (c : Lasting s) (i : ℕ) (l : i < dutyCount s) where
 -- what was asked for: no duty on two engines at once, and every job's service, whatever the tick and the job
 pub record Serves (s : Sharing) : Type 0 where
   pub once : (i k : ℕ) → i < dutyCount s → given (s .engines) (shareSchedule s) i k ≤ 1
-  pub jobs : (i q : ℕ) → i < dutyCount s → served (s .engines) (shareSchedule s) i (jobStart (dutyOf s i) q) (periodOf s i) ≡ dutyOf s i .service
+  pub jobs : (i q : ℕ) → i < dutyCount s → served (s .engines) (shareSchedule s) i (jobStart (dutyOf s i) q) (periodOf s i)
+      ≡ dutyOf s i .service
 
 pub lasting-serves : (s : Sharing) → Lasting s → Serves s
 lasting-serves s c = record { once = share-once s (c .in-blocks); jobs = λ i q l. share-served s c i l q }
@@ -138,7 +140,12 @@ lasting-serves s c = record { once = share-once s (c .in-blocks); jobs = λ i q 
 pub share-again : (s : Sharing) → Lasting s → (e : Engine) (k : ℕ) → shareSchedule s e (k + blocks s * s .ticks) ≡ shareSchedule s e k
 unfolding shareSchedule
 share-again s c e k =
-    rw (add-mul-div-right k (blocks s) (c .in-blocks .ticks-some), add-mul-mod-self-right k (blocks s) (s .ticks), add-mod-right (k / s .ticks) (blocks s))
+    rw (
+      add-mul-div-right k (blocks s) (c .in-blocks .ticks-some),
+      add-mul-mod-self-right k (blocks s) (s .ticks),
+      add-mod-right
+          (k / s .ticks) (blocks s),
+    )
 
 -- duties that are taken, shared out into good blocks
 pub sharable-lasting : (x : Wanted) → Sharable x → AllGood (sharingOf x) → Lasting (sharingOf x)

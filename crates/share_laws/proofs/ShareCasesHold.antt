@@ -49,14 +49,16 @@ use Rattle.paper.specs.ShareCases.{
 -- ---- which of them are given, and which refused
 
 given-told : (sharePlan (wantedIn table3) 36 ≡ answer (sharingIn table3)) × (sharePlan (wantedIn p5Shared) 12 ≡ answer (sharingIn p5Shared))
-unfolding sharePlan taken inRange badRange dutiesOf blockLengthOf gcdOf gcd euclid lcmOf lcm common blocks sharable overloaded roomy steady failing blockFails offRange tooFull jobUnits offService first sumOf free wants wantingTo chosen raisedUnits nextNeed needsAt allotments tab sumTo
+unfolding taken inRange dutiesOf blockLengthOf gcdOf gcd euclid lcmOf lcm common blocks sharable overloaded failing blockFails offRange
+    tooFull jobUnits offService first sumOf free wants wantingTo chosen raisedUnits nextNeed needsAt allotments tab sumTo
 given-told = (refl, refl)
 
 refused-told :
     (sharePlan (wantedIn smallest23) 18 ≡ refused 23 2) × (sharePlan (wantedIn against33) 18 ≡ refused 23 2)
     × (sharePlan (wantedIn fullest23) 48 ≡ refused 23 11) × (sharePlan (wantedIn tooLong) 0 ≡ refused 22 0)
     × (sharePlan (wantedIn tooMuch) 0 ≡ refused 7 0) × (sharePlan (wantedIn tooShort) 17 ≡ refused 8 18)
-unfolding sharePlan taken inRange badRange dutiesOf blockLengthOf gcdOf gcd euclid lcmOf lcm common blocks sharable overloaded roomy steady failing blockFails offRange tooFull jobUnits offService first sumOf free wants wantingTo chosen raisedUnits nextNeed needsAt allotments tab sumTo
+unfolding taken inRange dutiesOf blockLengthOf gcdOf gcd euclid lcmOf lcm common blocks sharable overloaded failing blockFails offRange
+    tooFull jobUnits offService first sumOf free wants wantingTo chosen raisedUnits nextNeed needsAt allotments tab sumTo
 refused-told = (refl, refl, refl, refl, refl, refl)
 
 -- ---- 004's conditions
@@ -88,7 +90,8 @@ unfolding free wants wantingTo chosen raisedUnits nextNeed needsAt allotments ta
 figures-table3 = ((refl, (refl, (refl, (refl, (refl, (refl, tt)))))), (refl, (refl, (refl, (refl, (refl, (refl, tt)))))))
 
 ticks-table3 : Each (SaysShares table3) table3Ticks
-unfolding shareSchedule laidOut lay layOne rowAfter unitAfter heldIn covers free wants wantingTo chosen raisedUnits nextNeed needsAt allotments tab sumTo blocks lcmOf lcm common blockLengthOf gcdOf gcd euclid
+unfolding shareSchedule laidOut lay layOne rowAfter unitAfter heldIn covers free wants wantingTo chosen raisedUnits nextNeed needsAt
+    allotments tab sumTo blocks lcmOf lcm common blockLengthOf gcdOf gcd euclid
 ticks-table3 = (refl, (refl, (refl, (refl, (refl, tt)))))
 
 hold-table3 : HoldsShares table3
@@ -99,7 +102,8 @@ hold-table3 =
     ((given-told .0, refl, refl), (met-33 .0, each-append says (table3Needs ++ table3Units) table3Ticks figures ticks-table3))
 
 hold-p5 : HoldsShares p5Shared
-unfolding shareLoads loadsIn load same free wants wantingTo chosen raisedUnits nextNeed needsAt allotments tab sumTo shareSchedule laidOut lay layOne rowAfter unitAfter heldIn covers blocks lcmOf lcm common blockLengthOf gcdOf gcd euclid
+unfolding shareLoads loadsIn load same free wants wantingTo chosen raisedUnits nextNeed needsAt allotments tab sumTo shareSchedule laidOut
+    lay layOne rowAfter unitAfter heldIn covers blocks lcmOf lcm common blockLengthOf gcdOf gcd euclid
 hold-p5 = ((given-told .1, refl, refl), (refl, (refl, (refl, (refl, (refl, (refl, (refl, (refl, (refl, (refl, tt)))))))))))
 
 hold-23 : HoldsShares smallest23 × HoldsShares against33 × HoldsShares fullest23
@@ -136,9 +140,11 @@ share-cases-hold = each-at HoldsShares table3 shareCases share-cases-each
 
 -- a set may meet theorem 3.3's condition, or 3.4's, and come to a block that fails: as they are printed, neither holds
 pub not-33 : ((s : Sharing) → Condition33 s → Clear (blockFails s) (blocks s)) → ⊥
-unfolding blockFails offRange tooFull jobUnits offService first sumOf blocks blockLengthOf gcdOf gcd euclid lcmOf lcm common free wants wantingTo chosen raisedUnits nextNeed needsAt allotments tab sumTo
+unfolding blockFails offRange tooFull jobUnits offService first sumOf blocks blockLengthOf gcdOf gcd euclid lcmOf lcm common free wants
+    wantingTo chosen raisedUnits nextNeed needsAt allotments tab sumTo
 not-33 h = not-both refl (h (sharingIn against33) (met-33 .1) 2 (omega arith))
 
 pub not-34 : ((s : Sharing) → Condition34 s → Clear (blockFails s) (blocks s)) → ⊥
-unfolding blockFails offRange tooFull jobUnits offService first sumOf blocks blockLengthOf gcdOf gcd euclid lcmOf lcm common free wants wantingTo chosen raisedUnits nextNeed needsAt allotments tab sumTo
+unfolding blockFails offRange tooFull jobUnits offService first sumOf blocks blockLengthOf gcdOf gcd euclid lcmOf lcm common free wants
+    wantingTo chosen raisedUnits nextNeed needsAt allotments tab sumTo
 not-34 h = not-both refl (h (sharingIn smallest23) (met-34 .0) 2 (omega arith))

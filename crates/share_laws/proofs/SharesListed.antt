@@ -1,5 +1,5 @@
--- The builder of shares and the direct question come to an answer or to a refusal whose number is listed for that call, and whose place is within
--- the bound on places: it is a duty or a block, of which there are few, or as many entries as few blocks of few duties have.
+-- The builder of shares and the direct question come to an answer or to a refusal whose number is listed for that call, and whose place is
+-- within the bound on places: it is a duty or a block, of which there are few, or as many entries as few blocks of few duties have.
 -- Assumes nothing.
 use Prim.Native.Nat.{ℕ, _≤_, _<_}
 use mathlib.Core.Path.{_≡_, refl, sym}
@@ -7,11 +7,11 @@ use mathlib.Core.Logic.{_⊎_, inl, inr}
 use native.Mathlib.Nat.{mul-le-mul}
 use native.Mathlib.Omega.{arith}
 use Rattle.paper.specs.declared.Engine.{Engine}
-use Rattle.paper.specs.Outcome.{Outcome, refused, mostPlace}
-use Rattle.paper.specs.Bytes.{small}
+use Rattle.paper.specs.Limits.{mostPlace, small, mostShareBlocks}
+use Rattle.paper.specs.Outcome.{Outcome, refused}
 use Rattle.paper.specs.Wanted.{Wanted}
 use Rattle.paper.specs.Sa2.{dutyCount}
-use Rattle.paper.specs.Shares.{blocks, mostShareBlocks, shareSchedule, entriesNeeded, sharePlan, shareQuestion}
+use Rattle.paper.specs.Shares.{blocks, shareSchedule, entriesNeeded, sharePlan, shareQuestion}
 use Rattle.paper.proofs.Outcomes.{answered, refused-one}
 use Rattle.paper.proofs.Passed.{From}
 use Rattle.plan_laws.proofs.Planned.{length-duties}
@@ -79,7 +79,8 @@ share-question-listed x e k n p h = go (asked-when x e k (refused n p) .0 h)
         listed-as QuestionNumber n p j q d
         (when-shared-listed QuestionNumber (λ j f. inl f) (inr (inr (inr (omega arith)))) (inr (inl refl)) x j q w)
     go (block-fails b d c l) =
-        listed-as QuestionNumber n p 23 b d (placed QuestionNumber 23 b (inr (inr (inr (omega arith)))) (omega arith) (block-few x b c (l .0)))
+        listed-as QuestionNumber n p 23 b d
+        (placed QuestionNumber 23 b (inr (inr (inr (omega arith)))) (omega arith) (block-few x b c (l .0)))
     go (engine-out d c g m) =
         listed-as QuestionNumber n p 18 0 d (placed QuestionNumber 18 0 (inr (inr (inl refl))) (omega arith) (omega arith))
     go (answered-so d c g m) = answered (shareSchedule (sharingOf x) e k) n p (sym d)

@@ -1,5 +1,6 @@
 -- When there is a plan of shares, when there is an answer to the question, and when which refusal. Each test decides one of the document's
--- conditions, and they are gone through in order, so each outcome comes about exactly where the earlier conditions are clear and its own holds.
+-- conditions, and they are gone through in order, so each outcome comes about exactly where the earlier conditions are clear and its own
+-- holds.
 -- Assumes nothing.
 use Prim.Native.Nat.{ℕ, _*_, _/_, _≤_, _<_}
 use mathlib.Core.Path.{_≡_, refl, sym, ap, _∙_}
@@ -17,7 +18,8 @@ use Rattle.paper.specs.Words.{blockLengthOf}
 use Rattle.paper.specs.Outcome.{Outcome, refused, answer, andThen}
 use Rattle.paper.specs.Wanted.{Wanted, taken}
 use Rattle.paper.specs.Sa2.{Sharing, sharing, dutyCount, dutyOf}
-use Rattle.paper.specs.Shares.{common, blocks, shareSchedule, overloaded, failing, mostShareBlocks, sharable, shared}
+use Rattle.paper.specs.Limits.{mostShareBlocks}
+use Rattle.paper.specs.Shares.{common, blocks, shareSchedule, overloaded, failing, sharable, shared}
 use Rattle.paper.specs.Shares.{entriesNeeded, roomy, steady, sharePlan, shareQuestion}
 use Rattle.paper.proofs.Outcomes.{answered, answer-one, past}
 use Rattle.plan_laws.proofs.TakenWhen.{Taken, takes, taken-told}
@@ -77,16 +79,13 @@ pub data WhenAsked (x : Wanted) (e : Engine) (k : ℕ) (o : Outcome Held) : Type
 module _ (s : Sharing) where
   -- a block that is not good is met first
   steady-bad : (b : ℕ) → LowestBad s b → steady s ≡ refused 23 b
-  unfolding steady
   steady-bad b l = rw (lowest-failing s b l, lt-ltb b (blocks s) (l .0))
 
   -- where all are good nothing is refused, and only there
   steady-good : AllGood s → steady s ≡ answer s
-  unfolding steady
   steady-good g = rw (none-failing s .1 g)
 
   pub steady-when : (steady s ≡ answer s) ↔ AllGood s
-  unfolding steady
   steady-when = ((λ h. none-failing s .0 (past (ltb (failing s) (blocks s)) 23 (failing s) (answer s) s h .0)), steady-good)
 
   -- one or the other
@@ -118,7 +117,8 @@ module _ (x : Wanted) where
   shared-tells : (o : Outcome Sharing) → shared x ≡ o → WhenShared x o
   shared-tells o = go (taken x) refl
     where
-      go : (y : Outcome (List Duty)) → taken x ≡ y → andThen y (λ l. sharable (sharing (blockLengthOf l) (x .engines) l)) ≡ o → WhenShared x o
+      go : (y : Outcome (List Duty)) → taken x ≡ y → andThen y (λ l. sharable (sharing (blockLengthOf l) (x .engines) l)) ≡ o
+          → WhenShared x o
       go (refused n p) e q = not-taken n p e (sym q)
       go (answer l) e q =
           let z = taken-told x l e in
@@ -159,7 +159,6 @@ module _ (x : Wanted) where
   module _ (room : ℕ) where
     -- what comes after 7
     after-shared : (o : Outcome Sharing) → Sharable x → o ≡ andThen (roomy room s) steady → WhenShares x room o
-    unfolding roomy
     after-shared o c q =
         by-cases (ltb room (entriesNeeded s))
         (λ h. list-short (q ∙ rw h) c (ltb-true room (entriesNeeded s) h))
@@ -169,7 +168,6 @@ module _ (x : Wanted) where
 
     -- every outcome has its condition, ..
     shares-tells : (o : Outcome Sharing) → sharePlan x room ≡ o → WhenShares x room o
-    unfolding sharePlan
     shares-tells o = go (shared x) refl
       where
         go : (y : Outcome Sharing) → shared x ≡ y → andThen (andThen y (roomy room)) steady ≡ o → WhenShares x room o
@@ -180,12 +178,10 @@ module _ (x : Wanted) where
 
     -- past 7 there is the list, and past 8 there are the blocks
     past-room : Sharable x → entriesNeeded s ≤ room → sharePlan x room ≡ steady s
-    unfolding sharePlan roomy
     past-room c a = rw (shares c, le-ltb room (entriesNeeded s) a)
 
     -- .. and comes about where that holds
     told-shares : (o : Outcome Sharing) → WhenShares x room o → sharePlan x room ≡ o
-    unfolding sharePlan roomy
     told-shares o (not-shared n p h q) = rw (shared-when (refused n p) .1 h) (sym q)
     told-shares o (list-short q c h) = rw (shares c, lt-ltb room (entriesNeeded s) h) (sym q)
     told-shares o (block-bad b q c a l) = past-room c a ∙ steady-bad s b l ∙ sym q
@@ -212,7 +208,6 @@ module _ (x : Wanted) where
 
     -- every outcome has its condition, ..
     asked-tells : (o : Outcome Held) → shareQuestion x e k ≡ o → WhenAsked x e k o
-    unfolding shareQuestion
     asked-tells o = go (shared x) refl
       where
         go : (y : Outcome Sharing) → shared x ≡ y → andThen (andThen y steady) told ≡ o → WhenAsked x e k o
@@ -223,7 +218,6 @@ module _ (x : Wanted) where
 
     -- .. and comes about where that holds
     told-asked : (o : Outcome Held) → WhenAsked x e k o → shareQuestion x e k ≡ o
-    unfolding shareQuestion
     told-asked o (nothing-shared n p h q) = rw (shared-when (refused n p) .1 h) (sym q)
     told-asked o (block-fails b q c l) = rw (shares c, steady-bad s b l) (sym q)
     told-asked o (engine-out q c g a) = rw (shares c, steady-good s g, le-ltb (e .0) (x .engines) a) (sym q)

@@ -1,7 +1,8 @@
 -- Which of refusal 23's causes come up. Nobody is allotted more than T units (`share-most`), so a number of units out of range is -1. Where
--- nobody would get -1, a block's allotments are the needs' whole units and one for each that is chosen. At most F are chosen, and F is what the
--- whole units leave of the engines' units: so a block is too full only where the whole units alone are. And where nobody would get -1 up to the
--- end of a job, the job had its service (`job-service`). So the first block that fails is the first with -1 units or too many whole ones.
+-- nobody would get -1, a block's allotments are the needs' whole units and one for each that is chosen. At most F are chosen, and F is what
+-- the whole units leave of the engines' units: so a block is too full only where the whole units alone are. And where nobody would get -1
+-- up to the end of a job, the job had its service (`job-service`). So the first block that fails is the first with -1 units or too many
+-- whole ones.
 -- Assumes nothing.
 use Prim.Native.Nat.{ℕ, zero, suc, _+_, _*_, _-_, _%_, _≤_, _<_}
 use mathlib.Core.Path.{_≡_, refl, sym, ap, _∙_}

@@ -1,8 +1,8 @@
--- SA2's need in closed form. A block adds a duty's share T·C/D to its need, and takes off what the duty is allotted. So before block b the need
--- is (b + 1)·T·C/D less what the duty had in the blocks before, as long as it had no -1 units there. What the need is past a whole number then
--- depends on b alone. At the end of a job (b + 1)·T·C/D is whole, nothing is past it and the duty is not chosen: it has had just its jobs'
--- service. A need is at most a share and a part of a unit, and a share is at most T: so its whole units are at most T, and whoever is chosen has
--- fewer. Nobody is allotted more than T.
+-- SA2's need in closed form. A block adds a duty's share T·C/D to its need, and takes off what the duty is allotted. So before block b the
+-- need is (b + 1)·T·C/D less what the duty had in the blocks before, as long as it had no -1 units there. What the need is past a whole
+-- number then depends on b alone. At the end of a job (b + 1)·T·C/D is whole, nothing is past it and the duty is not chosen: it has had
+-- just its jobs' service. A need is at most a share and a part of a unit, and a share is at most T: so its whole units are at most T, and
+-- whoever is chosen has fewer. Nobody is allotted more than T.
 -- Assumes nothing.
 use Prim.Native.Nat.{ℕ, zero, suc, _+_, _*_, _-_, _/_, _%_, _≤_, _<_, _∣_}
 use mathlib.Core.Path.{_≡_, sym, ap, _∙_}
@@ -106,7 +106,8 @@ module _ (s : Sharing) (i : ℕ) (l : i < dutyCount s) where
       rw (need-first, once) (add-mod-right (shareOf s i) (periodOf s i))
   part-closed (suc b) =
       let more : shareOf s i + (b + 1) * shareOf s i ≡ (suc b + 1) * shareOf s i = omega arith in
-      rw (part-next b, part-closed b) (add-mod-mod (shareOf s i) ((b + 1) * shareOf s i) (periodOf s i) ∙ ap (λ (k : ℕ). k % periodOf s i) more)
+      rw (part-next b, part-closed b)
+      (add-mod-mod (shareOf s i) ((b + 1) * shareOf s i) (periodOf s i) ∙ ap (λ (k : ℕ). k % periodOf s i) more)
 
   -- a block takes from a need what it allots, and adds a share
   need-step : (b : ℕ) → 1 ≤ raisedUnits s (needsAt s b) i → periodOf s i * unitsIn s b i + needOf s (suc b) i ≡ needOf s b i + shareOf s i
@@ -127,10 +128,12 @@ module _ (s : Sharing) (i : ℕ) (l : i < dutyCount s) where
   -- the need before block b: (b + 1) shares, less what the duty had
   pub need-closed : (b : ℕ) → Enough s b i → periodOf s i * hadTo s b i + needOf s b i ≡ (b + 1) * shareOf s i + periodOf s i
   need-closed zero e = rw (sum-none (λ k. unitsIn s k i)) (omega (arith, need-first))
-  need-closed (suc b) e = rw (sum-suc b (λ k. unitsIn s k i)) (omega (arith, need-step b (e b (omega arith)), need-closed b (λ k h. e k (omega arith))))
+  need-closed (suc b) e = rw (sum-suc b (λ k. unitsIn s k i))
+      (omega (arith, need-step b (e b (omega arith)), need-closed b (λ k h. e k (omega arith))))
 
   -- so of whole units it has those of (b + 1) shares, less what it had, and the one that raises them
-  pub floor-closed : (b : ℕ) → 0 < periodOf s i → Enough s b i → hadTo s b i + wholeOf s (needsAt s b) i ≡ (b + 1) * shareOf s i / periodOf s i + 1
+  pub floor-closed : (b : ℕ) → 0 < periodOf s i → Enough s b i → hadTo s b i + wholeOf s (needsAt s b) i
+      ≡ (b + 1) * shareOf s i / periodOf s i + 1
   floor-closed b p e =
       sym (mul-add-div p (hadTo s b i) (needOf s b i))
       ∙ ap (λ (k : ℕ). k / periodOf s i) (need-closed b e)

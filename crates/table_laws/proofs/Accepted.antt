@@ -9,19 +9,22 @@ use mathlib.Core.Logic.{_↔_}
 use native.Mathlib.Omega.{arith}
 use lib.Dec.{ltb, eqb}
 use lib.ListN.{length, length-map, List·getD-map}
-use borrow.Author.Tests.{eqb-true, eq-eqb, not-false}
+use borrow.Author.Tests.{eqb-true, eq-eqb, ne-eqb, not-false}
 use Rattle.laws.proofs.Search.{none-clear, clear-none}
 use Rattle.laws.proofs.Decides.{eqb-decides, none-found}
 use Rattle.laws.proofs.Divisor.{gcdOf-divides}
 use Rattle.paper.specs.declared.Duty.{Duty}
 use Rattle.paper.specs.Duties.{duty, dutyAt}
 use Rattle.paper.specs.Words.{slice, blockLengthOf, runAt, Table}
-use Rattle.paper.specs.Outcome.{answer}
-use Rattle.paper.specs.Bytes.{Width, small, parse}
+use Rattle.paper.specs.Outcome.{refused, answer}
+use Rattle.paper.specs.Limits.{Width, small}
+use Rattle.paper.specs.Bytes.{parse, readTable}
 use Rattle.paper.specs.Builder.{badSlice}
-use Rattle.paper.specs.Rules.{unordered, overlaps, joins, twice, lowest, unitsOf, badSum, badOrder, judgeRuns, judgeTable, accepted}
+use Rattle.paper.specs.Rules.{fault, unordered, overlaps, joins, twice, lowest, unitsOf, badSum, badOrder, judgeRuns, judgeDuties}
+use Rattle.paper.specs.Rules.{judgeTable, accepted}
 use Rattle.paper.specs.Statements.{Ranged, Meets}
-use Rattle.table_laws.proofs.Rules.{InOrder, ordered-clear, clear-ordered, lowest-none, none-lowest, overlaps-apart, apart-overlaps, joins-any, not-joins, twice-apart, apart-twice, whole-decides, Wholes}
+use Rattle.table_laws.proofs.Rules.{InOrder, ordered-clear, clear-ordered, lowest-none, none-lowest, overlaps-apart, apart-overlaps}
+use Rattle.table_laws.proofs.Rules.{joins-any, not-joins, twice-apart, apart-twice, whole-decides, Wholes}
 use Rattle.paper.proofs.Outcomes.{answer-one, then-answer, past}
 
 -- ---- the judge's way down the rules
@@ -36,23 +39,47 @@ pub record Passed (t : Table) : Type 0 where
   pub twofold : ltb (lowest twice (t .runs)) (length (t .runs)) ≡ false
   pub sums : ltb (badSum t) (length (t .duties)) ≡ false
 
-judge-runs-passed : (t s : Table) → eqb (t .ticks) (blockLengthOf (t .duties)) ≡ true → ltb (badSlice (t .ticks) (t .duties)) (length (t .duties)) ≡ false → judgeRuns t ≡ answer s → Passed t × (s ≡ t)
+judge-runs-passed : (t s : Table) → eqb (t .ticks) (blockLengthOf (t .duties)) ≡ true
+    → ltb (badSlice (t .ticks) (t .duties)) (length (t .duties)) ≡ false → judgeRuns t ≡ answer s → Passed t × (s ≡ t)
 unfolding judgeRuns
 judge-runs-passed t s h11 h12 h =
     let h13 = past (ltb (badOrder t) (length (t .runs))) 13 (badOrder t) _ s h in
     let h14 = past (ltb (lowest overlaps (t .runs)) (length (t .runs))) 14 (lowest overlaps (t .runs)) _ s (h13 .1) in
     let h15 = past (ltb (lowest joins (t .runs)) (length (t .runs))) 15 (lowest joins (t .runs)) _ s (h14 .1) in
     let h16 = past (ltb (lowest twice (t .runs)) (length (t .runs))) 16 (lowest twice (t .runs)) _ s (h15 .1) in
-    let h17 = past (ltb (badSum t) (length (t .duties))) 17 (badSum t) _ s (h16 .1) in
-    (record { block-length = h11; slices = h12; order = h13 .0; overlap = h14 .0; joint = h15 .0; twofold = h16 .0; sums = h17 .0 }, sym (answer-one t s (h17 .1)))
+    let h17 = past (ltb (badSum t) (length (t .duties))) 17 (badSum t) _ s (h16 .1) in (
+      record { block-length = h11; slices = h12; order = h13 .0; overlap = h14 .0; joint = h15 .0; twofold = h16 .0; sums = h17 .0 },
+      sym
+          (answer-one t s (h17 .1)),
+    )
+
+-- 11 and 12 hand on the very table that they are asked of
+record DutiesPassed (t s : Table) : Type 0 where
+  block-length : eqb (t .ticks) (blockLengthOf (t .duties)) ≡ true
+  slices : ltb (badSlice (t .ticks) (t .duties)) (length (t .duties)) ≡ false
+  same : s ≡ t
+
+duties-passed : (t s : Table) → judgeDuties t ≡ answer s → DutiesPassed t s
+unfolding judgeDuties
+duties-passed t s h =
+    let h11 = past (not (eqb (t .ticks) (blockLengthOf (t .duties)))) 11 0 _ s h in
+    let h12 = past (ltb (badSlice (t .ticks) (t .duties)) (length (t .duties))) 12 (badSlice (t .ticks) (t .duties)) _ s (h11 .1) in
+    record {
+      block-length = not-false (eqb (t .ticks) (blockLengthOf (t .duties))) (h11 .0);
+      slices = h12 .0;
+      same = sym (answer-one t s (h12 .1));
+    }
+
+pub duties-same : (t s : Table) → judgeDuties t ≡ answer s → s ≡ t
+duties-same t s h = duties-passed t s h .same
 
 -- the judge answers nothing but the table itself, and that only where no test finds a place
 judge-passed : (t s : Table) → judgeTable t ≡ answer s → Passed t × (s ≡ t)
 unfolding judgeTable
 judge-passed t s h =
-    let h11 = past (not (eqb (t .ticks) (blockLengthOf (t .duties)))) 11 0 _ s h in
-    let h12 = past (ltb (badSlice (t .ticks) (t .duties)) (length (t .duties))) 12 (badSlice (t .ticks) (t .duties)) (judgeRuns t) s (h11 .1) in
-    judge-runs-passed t s (not-false (eqb (t .ticks) (blockLengthOf (t .duties))) (h11 .0)) (h12 .0) (h12 .1)
+    let a = then-answer (judgeDuties t) judgeRuns s h in
+    let p = duties-passed t (a .0) (a .1) in
+    judge-runs-passed t s (p .block-length) (p .slices) (ap judgeRuns (sym (p .same)) ∙ a .2)
 
 pub judge-same : (t s : Table) → judgeTable t ≡ answer s → s ≡ t
 judge-same t s h = judge-passed t s h .1
@@ -61,7 +88,7 @@ pub accepted-passed : (t : Table) → judgeTable t ≡ answer t → Passed t
 accepted-passed t h = judge-passed t t h .0
 
 pub passed-accepted : (t : Table) → Passed t → judgeTable t ≡ answer t
-unfolding judgeTable judgeRuns
+unfolding judgeTable judgeDuties judgeRuns
 passed-accepted t p = rw (p .block-length, p .slices, p .order, p .overlap, p .joint, p .twofold, p .sums)
 
 -- ---- the tests and the statements
@@ -75,16 +102,14 @@ ranged-long r k h = r .run-ranged k h .some-units
 
 -- 12 and 17 are searches over the duties
 pub slices-met : (t : ℕ) (ds : List Duty) → (ltb (badSlice t ds) (length ds) ≡ false) ↔ Wholes t ds
-unfolding badSlice
 slices-met t ds = none-found (λ i. whole-decides t (dutyAt ds i)) (length ds)
 
-sums-met : (t : Table) → (ltb (badSum t) (length (t .duties)) ≡ false) ↔ ((i : ℕ) → i < length (t .duties) → unitsOf (t .runs) i ≡ slice (t .ticks) (dutyAt (t .duties) i))
-unfolding badSum
+sums-met : (t : Table) → (ltb (badSum t) (length (t .duties)) ≡ false)
+    ↔ ((i : ℕ) → i < length (t .duties) → unitsOf (t .runs) i ≡ slice (t .ticks) (dutyAt (t .duties) i))
 sums-met t = none-found (λ i. eqb-decides (unitsOf (t .runs) i) (slice (t .ticks) (dutyAt (t .duties) i))) (length (t .duties))
 
 -- 13 is a search over the runs
 order-met : (t : Table) → (ltb (badOrder t) (length (t .runs)) ≡ false) ↔ InOrder (t .runs)
-unfolding badOrder
 order-met t = (
   (λ h. ordered-clear (t .runs) (none-clear (unordered (t .runs)) (length (t .runs)) h)),
   (λ o. clear-none (unordered (t .runs)) (length (t .runs)) (clear-ordered (t .runs) o)),
@@ -110,9 +135,11 @@ meets-passed t long m =
       block-length = eq-eqb (t .ticks) (blockLengthOf (t .duties)) (m .block-length);
       slices = slices-met (t .ticks) (t .duties) .1 (m .slices-whole);
       order = order-met t .1 (m .in-order);
-      overlap = none-lowest overlaps xs (λ j k l h. apart-overlaps (runAt xs j) (runAt xs k) (long j (omega arith)) (long k h) (m .apart-in-row j k l h));
+      overlap = none-lowest overlaps xs
+          (λ j k l h. apart-overlaps (runAt xs j) (runAt xs k) (long j (omega arith)) (long k h) (m .apart-in-row j k l h));
       joint = none-lowest joins xs (λ j k l h. not-joins (runAt xs j) (runAt xs k) (m .not-joined j k (omega arith) h));
-      twofold = none-lowest twice xs (λ j k l h. apart-twice (runAt xs j) (runAt xs k) (long j (omega arith)) (long k h) (m .apart-of-duty j k l h));
+      twofold = none-lowest twice xs
+          (λ j k l h. apart-twice (runAt xs j) (runAt xs k) (long j (omega arith)) (long k h) (m .apart-of-duty j k l h));
       sums = sums-met t .1 (m .sums-right);
     }
 
@@ -133,6 +160,34 @@ accepted-read b t h =
 pub read-accepted : (b : List ℕ) (t : Table) → parse small b ≡ answer t → judgeTable t ≡ answer t → accepted b ≡ answer t
 unfolding accepted
 read-accepted b t p q = rw p q
+
+-- what the reader refuses is refused, and what it reads goes to the rules
+pub read-refused : (b : List ℕ) {n p : ℕ} → readTable b ≡ refused n p → accepted b ≡ refused n p
+unfolding accepted
+read-refused b e = rw e
+
+pub read-judged : (b : List ℕ) {t : Table} → readTable b ≡ answer t → accepted b ≡ judgeTable t
+unfolding accepted
+read-judged b e = rw e
+
+-- 11, and what is left where it is met
+pub length-wrong : (t : Table) → (t .ticks ≡ blockLengthOf (t .duties) → ⊥) → judgeDuties t ≡ refused 11 0
+unfolding judgeDuties
+length-wrong t n = rw (ne-eqb (t .ticks) (blockLengthOf (t .duties)) n)
+
+pub length-right : (t : Table) → t .ticks ≡ blockLengthOf (t .duties)
+    → judgeDuties t ≡ fault 12 (badSlice (t .ticks) (t .duties)) (length (t .duties)) (answer t)
+unfolding judgeDuties
+length-right t e = rw (eq-eqb (t .ticks) (blockLengthOf (t .duties)) e)
+
+-- the rules of the duties, then those of the runs
+pub duties-refuse : (t : Table) {n p : ℕ} → judgeDuties t ≡ refused n p → judgeTable t ≡ refused n p
+unfolding judgeTable
+duties-refuse t e = rw e
+
+pub duties-pass : (t s : Table) → judgeDuties t ≡ answer s → judgeTable t ≡ judgeRuns t
+unfolding judgeTable
+duties-pass t s e = rw e (ap judgeRuns (duties-same t s e))
 
 -- ---- the block length
 

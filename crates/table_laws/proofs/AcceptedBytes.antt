@@ -1,6 +1,6 @@
--- A table is accepted, whoever wrote it, exactly when it meets document 01's rules: the bytes are those of a table that is in form and meets
--- rules 11 to 17. Bytes that read as a table are its bytes and the table is in form; and the judge passes a table in form exactly where it
--- meets the rules.
+-- A table is accepted, whoever wrote it, exactly when it meets document 01's rules: the bytes are those of a table that is in form and
+-- meets rules 11 to 17. Bytes that read as a table are its bytes and the table is in form; and the judge passes a table in form exactly
+-- where it meets the rules.
 -- Assumes nothing.
 use Prim.Native.Nat.{ℕ}
 use mathlib.Core.Path.{_≡_}
@@ -9,7 +9,8 @@ use mathlib.Core.Logic.{_↔_}
 use Rattle.laws.proofs.Digits.{AreBytes}
 use Rattle.paper.specs.Words.{Table}
 use Rattle.paper.specs.Outcome.{answer}
-use Rattle.paper.specs.Bytes.{small, encode}
+use Rattle.paper.specs.Limits.{small}
+use Rattle.paper.specs.Bytes.{encode}
 use Rattle.paper.specs.Rules.{accepted}
 use Rattle.paper.specs.Statements.{Ranged, Meets}
 use Rattle.table_laws.proofs.Accepted.{ranged-long, accepted-iff, accepted-read, read-accepted}

@@ -1,5 +1,5 @@
--- A table's bytes: how long they are, which record stands where, and that they are bytes. Records of one kind are equally long, so the place
--- of each is computed from its number.
+-- A table's bytes: how long they are, which record stands where, and that they are bytes. Records of one kind are equally long, so the
+-- place of each is computed from its number.
 -- Assumes nothing.
 use Prim.Native.Nat.{ℕ, _+_, _*_, _<_}
 use mathlib.Core.Path.{_≡_, _∙_}
@@ -15,7 +15,8 @@ use Rattle.paper.specs.declared.Duty.{Duty}
 use Rattle.paper.specs.declared.Run.{Run}
 use Rattle.paper.specs.Duties.{duty, dutyAt}
 use Rattle.paper.specs.Words.{run, Table, runAt}
-use Rattle.paper.specs.Bytes.{Width, headBytes, dutyBytes, runBytes, endBytes, encode, headLength, dutyLength, runLength, endLength, dutyPlace, runPlace}
+use Rattle.paper.specs.Limits.{Width, headLength, dutyLength, runLength, endLength}
+use Rattle.paper.specs.Bytes.{headBytes, dutyBytes, runBytes, endBytes, encode, dutyPlace, runPlace}
 
 -- ---- lengths
 
@@ -48,7 +49,8 @@ body w t = front w t ++ flat (runBytes w) (t .runs)
 
 -- up to the runs they are as long as the place of the first says
 length-front : (w : Width) (t : Table) → length (front w t) ≡ headLength w + dutyLength * length (t .duties)
-length-front w t = length-append (headBytes w t) (flat dutyBytes (t .duties)) ∙ omega (arith, length-head w t, length-flat dutyBytes dutyLength length-duty (t .duties))
+length-front w t = length-append (headBytes w t) (flat dutyBytes (t .duties))
+    ∙ omega (arith, length-head w t, length-flat dutyBytes dutyLength length-duty (t .duties))
 
 -- up to the end record they are as long as its place says
 length-body :
@@ -59,7 +61,8 @@ length-body w t =
     ∙ omega (arith, length-front w t, length-flat (runBytes w) (runLength w) (length-run w) (t .runs))
 
 -- all of them
-pub length-encode : (w : Width) (t : Table) → length (encode w t) ≡ headLength w + dutyLength * length (t .duties) + runLength w * length (t .runs) + endLength
+pub length-encode : (w : Width) (t : Table) → length (encode w t)
+    ≡ headLength w + dutyLength * length (t .duties) + runLength w * length (t .runs) + endLength
 unfolding encode
 length-encode w t =
     length-append (body w t) (endBytes (length (t .runs)))
@@ -81,7 +84,8 @@ pub head-stands : (w : Width) (t : Table) → HasPart (encode w t) 0 (headBytes 
 head-stands w t = holds-left (headBytes w t) (flat dutyBytes (t .duties)) (front-stands w t)
 
 -- each duty's record stands at its place
-pub duty-stands : (w : Width) (t : Table) (d : ℕ) → d < length (t .duties) → HasPart (encode w t) (dutyPlace w d) (dutyBytes (dutyAt (t .duties) d))
+pub duty-stands : (w : Width) (t : Table) (d : ℕ) → d < length (t .duties)
+    → HasPart (encode w t) (dutyPlace w d) (dutyBytes (dutyAt (t .duties) d))
 duty-stands w t d h =
     holds-flat dutyBytes dutyLength length-duty (duty 0 0) (t .duties) (headLength w) d h
     (holds-at (0 + length (headBytes w t)) (headLength w) (omega (arith, length-head w t))
@@ -89,14 +93,16 @@ duty-stands w t d h =
 
 -- each run's record stands at its place
 pub run-stands :
-    (w : Width) (t : Table) (k : ℕ) → k < length (t .runs) → HasPart (encode w t) (runPlace w (length (t .duties)) k) (runBytes w (runAt (t .runs) k))
+    (w : Width) (t : Table) (k : ℕ) → k < length (t .runs) → HasPart (encode w t) (runPlace w (length (t .duties)) k)
+    (runBytes w (runAt (t .runs) k))
 run-stands w t k h =
     holds-flat (runBytes w) (runLength w) (length-run w) (run 0 0 0 0) (t .runs) (headLength w + dutyLength * length (t .duties)) k h
     (holds-at (0 + length (front w t)) (headLength w + dutyLength * length (t .duties)) (omega (arith, length-front w t))
     (holds-right (front w t) (flat (runBytes w) (t .runs)) (body-stands w t)))
 
 -- the end record stands after the last run's
-pub end-stands : (w : Width) (t : Table) → HasPart (encode w t) (runPlace w (length (t .duties)) (length (t .runs))) (endBytes (length (t .runs)))
+pub end-stands : (w : Width) (t : Table) → HasPart (encode w t) (runPlace w (length (t .duties)) (length (t .runs)))
+    (endBytes (length (t .runs)))
 unfolding encode
 end-stands w t =
     holds-at (0 + length (body w t)) (runPlace w (length (t .duties)) (length (t .runs))) (omega (arith, length-body w t))

@@ -19,14 +19,18 @@ use Rattle.paper.specs.declared.Duty.{Duty}
 use Rattle.paper.specs.declared.Run.{Run}
 use Rattle.paper.specs.Duties.{duty, dutyAt}
 use Rattle.paper.specs.Words.{run, Table, runAt}
-use Rattle.paper.specs.Bytes.{Width, headBytes, dutyBytes, runBytes, endBytes, encode, headLength, dutyLength, runLength, endLength, dutyPlace, runPlace, stands, ticksIn, enginesIn, dutiesIn, dutyIn, runIn, tableIn}
+use Rattle.paper.specs.Limits.{Width, headLength, dutyLength, runLength, endLength}
+use Rattle.paper.specs.Bytes.{headBytes, dutyBytes, runBytes, endBytes, encode, dutyPlace, runPlace, stands, ticksIn, enginesIn, dutiesIn}
+use Rattle.paper.specs.Bytes.{dutyIn, runIn, tableIn}
 use Rattle.table_laws.proofs.Bytes.{head-stands, duty-stands, run-stands}
 
 -- a record that stands somewhere is not cut short and is of its kind
-pub stands-there : {b : List ℕ} {at : ℕ} (kind size : ℕ) (body : List ℕ) → suc (length body) ≡ size → HasPart b at (kind ∷ body) → stands b at kind size ≡ true
+pub stands-there : {b : List ℕ} {at : ℕ} (kind size : ℕ) (body : List ℕ) → suc (length body) ≡ size → HasPart b at (kind ∷ body)
+    → stands b at kind size ≡ true
 unfolding stands
 stands-there {b} {at} kind size body e h =
-    and-both (leb (at + size) (length b)) (eqb (getD b at 0) kind) (le-leb (at + size) (length b) (omega (arith, holds-room (kind ∷ body) h)))
+    and-both (leb (at + size) (length b)) (eqb (getD b at 0) kind)
+    (le-leb (at + size) (length b) (omega (arith, holds-room (kind ∷ body) h)))
     (eq-eqb (getD b at 0) kind (holds-first kind body h))
 
 -- the head's numbers fit their fields
@@ -61,7 +65,8 @@ module _ (w : Width) (t : Table) (b : List ℕ) (h : HasPart b 0 (headBytes w t)
   head-ticks f =
       holds-field (w .headKind ∷ []) 4 (t .ticks) 1
       (holds-left (w .headKind ∷ digits 4 (t .ticks)) (digits 1 (t .engines))
-      (holds-left (w .headKind ∷ digits 4 (t .ticks) ++ digits 1 (t .engines)) (digits (w .dutyField) (length (t .duties))) h)) (omega arith) (f .ticks)
+      (holds-left (w .headKind ∷ digits 4 (t .ticks) ++ digits 1 (t .engines)) (digits (w .dutyField) (length (t .duties))) h))
+      (omega arith) (f .ticks)
 
   -- the number of engines is read
   pub head-engines : HeadFits w t → enginesIn b ≡ t .engines
@@ -88,7 +93,8 @@ pub duty-read : (x : Duty) (b : List ℕ) (at : ℕ) → HasPart b at (dutyBytes
 unfolding dutyBytes dutyIn
 duty-read x b at h f =
     rw (
-      holds-field (2 ∷ []) 4 (x .service) (at + 1) (holds-left (2 ∷ digits 4 (x .service)) (digits 4 (x .period)) h) (omega arith) (f .service),
+      holds-field (2 ∷ []) 4 (x .service) (at + 1) (holds-left (2 ∷ digits 4 (x .service)) (digits 4 (x .period)) h) (omega arith)
+          (f .service),
       holds-field (2 ∷ digits 4 (x .service)) 4 (x .period) (at + 5) h (simp length-digits) (f .period),
     )
 
@@ -96,7 +102,8 @@ duty-read x b at h f =
 pub run-kind : (w : Width) (x : Run) (b : List ℕ) (at : ℕ) → HasPart b at (runBytes w x) → stands b at (w .runKind) (runLength w) ≡ true
 unfolding runBytes
 run-kind w x b at h =
-    stands-there (w .runKind) (runLength w) (digits 1 (x .row .0) ++ digits (w .dutyField) (x .duty) ++ digits 4 (x .first) ++ digits 4 (x .length))
+    stands-there (w .runKind) (runLength w)
+    (digits 1 (x .row .0) ++ digits (w .dutyField) (x .duty) ++ digits 4 (x .first) ++ digits 4 (x .length))
     (simp (length-append, length-digits) (omega arith)) h
 
 -- and reads as the run

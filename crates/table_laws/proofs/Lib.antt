@@ -1,10 +1,11 @@
--- Tables: the rules as plain statements and as tests, a slice that is whole, what is accepted; and a table's bytes, their fields, what is
--- written, what is read, and which bytes are accepted.
+-- Tables: the rules as plain statements and as tests, a slice that is whole, what is accepted; and a table's bytes, their fields, what
+-- reading them comes to, what is written, what is read, and which bytes are accepted.
 pub mod Rules
 pub mod Accepted
 pub mod Whole
 pub mod Bytes
 pub mod Fields
+pub mod Forms
 pub mod Written
 pub mod Read
 pub mod AcceptedBytes

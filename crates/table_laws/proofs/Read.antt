@@ -18,7 +18,9 @@ use Rattle.laws.proofs.Parts.{cut-same, cut-join, cut-cons, cut-flat}
 use Rattle.paper.specs.Duties.{duty}
 use Rattle.paper.specs.Words.{run, Table}
 use Rattle.paper.specs.Outcome.{answer}
-use Rattle.paper.specs.Bytes.{Width, headBytes, dutyBytes, runBytes, endBytes, encode, headLength, dutyLength, runLength, endLength, dutyPlace, runPlace, ticksIn, enginesIn, dutiesIn, dutyIn, runIn, headGood, dutyGood, runGood, endGood, badDuty, goodRuns, tableIn, afterRuns, afterHead, parse}
+use Rattle.paper.specs.Limits.{Width, headLength, dutyLength, runLength, endLength}
+use Rattle.paper.specs.Bytes.{headBytes, dutyBytes, runBytes, endBytes, encode, dutyPlace, runPlace, ticksIn, enginesIn, dutiesIn, dutyIn}
+use Rattle.paper.specs.Bytes.{runIn, headGood, dutyGood, runGood, endGood, badDuty, goodRuns, tableIn, afterRuns, afterHead, parse}
 use Rattle.paper.specs.Statements.{DutyRanged, RunRanged, Ranged}
 use Rattle.paper.proofs.Outcomes.{answer-one, past}
 use Rattle.paper.proofs.Passed.{Standing, HeadTold, head-told, duty-told, run-told, end-told}
@@ -38,11 +40,13 @@ field-part b p at m k place y e q l = rw (digits-numAt k b place y l, e, ← q) 
 module _ (w : Width) (b : List ℕ) (y : AreBytes b) where
   -- the head
   head-again :
-      HeadTold w b → w .headKind ∷ digits 4 (ticksIn b) ++ digits 1 (enginesIn b) ++ digits (w .dutyField) (dutiesIn w b) ≡ take (headLength w) (drop 0 b)
+      HeadTold w b → w .headKind ∷ digits 4 (ticksIn b) ++ digits 1 (enginesIn b) ++ digits (w .dutyField) (dutiesIn w b)
+      ≡ take (headLength w) (drop 0 b)
   head-again h =
       field-part b (w .headKind ∷ digits 4 (ticksIn b) ++ digits 1 (enginesIn b)) 0 6 (w .dutyField) 6 y
       (field-part b (w .headKind ∷ digits 4 (ticksIn b)) 0 5 1 5 y
-      (field-part b (w .headKind ∷ []) 0 1 4 1 y (kind-part b 0 (w .headKind) (headLength w) (h .here) (omega arith)) (omega arith) (omega (arith, h .here .room)))
+      (field-part b (w .headKind ∷ []) 0 1 4 1 y (kind-part b 0 (w .headKind) (headLength w) (h .here) (omega arith)) (omega arith)
+      (omega (arith, h .here .room)))
       (omega arith) (omega (arith, h .here .room))) (omega arith) (omega (arith, h .here .room))
 
   -- a duty's record
@@ -58,10 +62,12 @@ module _ (w : Width) (b : List ℕ) (y : AreBytes b) where
   unfolding runBytes runIn
   run-again at h =
       let f = w .dutyField in
-      let p1 = field-part b (w .runKind ∷ []) at 1 1 (at + 1) y (kind-part b at (w .runKind) (runLength w) h (omega arith)) (omega arith) (omega (arith, h .room)) in
+      let p1 = field-part b (w .runKind ∷ []) at 1 1 (at + 1) y (kind-part b at (w .runKind) (runLength w) h (omega arith)) (omega arith)
+      (omega (arith, h .room)) in
       let p2 = field-part b _ at 2 f (at + 2) y p1 (omega arith) (omega (arith, h .room)) in
       let p3 = field-part b _ at (2 + f) 4 (at + 2 + f) y p2 (omega arith) (omega (arith, h .room)) in
-      field-part b _ at (2 + f + 4) 4 (at + 6 + f) y p3 (omega arith) (omega (arith, h .room)) ∙ cut-same b (2 + f + 4 + 4) (runLength w) at at (omega arith) refl
+      field-part b _ at (2 + f + 4) 4 (at + 6 + f) y p3 (omega arith) (omega (arith, h .room))
+      ∙ cut-same b (2 + f + 4 + 4) (runLength w) at at (omega arith) refl
 
   -- the end record
   end-again : (at n : ℕ) → Standing b at 4 endLength → numAt 2 b (at + 1) ≡ n → endBytes n ≡ take endLength (drop at b)
@@ -77,7 +83,8 @@ pub record InForm (w : Width) (b : List ℕ) (n k : ℕ) : Type 0 where
   pub count : dutiesIn w b ≡ n
   pub each-duty : (d : ℕ) → d < n → Standing b (dutyPlace w d) 2 dutyLength × DutyRanged (dutyIn b (dutyPlace w d))
   pub each-run :
-      (j : ℕ) → j < k → Standing b (runPlace w n j) (w .runKind) (runLength w) × RunRanged (ticksIn b) (enginesIn b) n (runIn w b (runPlace w n j))
+      (j : ℕ) → j < k → Standing b (runPlace w n j) (w .runKind) (runLength w)
+      × RunRanged (ticksIn b) (enginesIn b) n (runIn w b (runPlace w n j))
   pub few : k ≤ w .mostRuns
   pub last : Standing b (runPlace w n k) 4 endLength × (numAt 2 b (runPlace w n k + 1) ≡ k)
   pub no-more : length b ≤ runPlace w n k + endLength
@@ -86,7 +93,7 @@ pub record InForm (w : Width) (b : List ℕ) (n k : ℕ) : Type 0 where
 pub parsed :
     (w : Width) (b : List ℕ) (t : Table) → parse w b ≡ answer t
     → InForm w b (dutiesIn w b) (goodRuns w b (dutiesIn w b)) × (tableIn w b (dutiesIn w b) (goodRuns w b (dutiesIn w b)) ≡ t)
-unfolding parse afterHead afterRuns badDuty goodRuns
+unfolding parse afterHead afterRuns
 parsed w b t h =
     let n = dutiesIn w b in
     let k = goodRuns w b n in
@@ -121,14 +128,16 @@ formed-ranged w b n k f =
       duties-least = rw length-tab (omega (arith, f .head .duties, f .count));
       duties-most = rw length-tab (omega (arith, f .head .duties, f .count));
       runs-most = rw length-tab (f .few);
-      duty-ranged = λ i h. let l = rw length-tab at h in rw (getD-tab n (λ d. dutyIn b (dutyPlace w d)) (duty 0 0) i l) (f .each-duty i l .1);
+      duty-ranged = λ i h. let l = rw length-tab at h in rw (getD-tab n (λ d. dutyIn b (dutyPlace w d)) (duty 0 0) i l)
+          (f .each-duty i l .1);
       run-ranged = λ j h.
           let l = rw length-tab at h in
           rw (getD-tab k (λ i. runIn w b (runPlace w n i)) (run 0 0 0 0) j l, length-tab) (f .each-run j l .1);
     }
 
 -- the head of that table's bytes is the head of these
-head-formed : (w : Width) (b : List ℕ) (n k : ℕ) → AreBytes b → InForm w b n k → headBytes w (tableIn w b n k) ≡ take (headLength w) (drop 0 b)
+head-formed : (w : Width) (b : List ℕ) (n k : ℕ) → AreBytes b → InForm w b n k → headBytes w (tableIn w b n k)
+    ≡ take (headLength w) (drop 0 b)
 unfolding headBytes tableIn
 head-formed w b n k y f = rw (length-tab, ← f .count) (head-again w b y (f .head))
 
@@ -139,8 +148,10 @@ formed-encode w b n k y f =
     let h = headLength w in
     let d = dutyLength * n in
     let r = runLength w * k in
-    let duties = cut-flat b dutyBytes dutyLength n (λ i. dutyIn b (dutyPlace w i)) h (λ i l. duty-again w b y (dutyPlace w i) (f .each-duty i l .0)) in
-    let runs = cut-flat b (runBytes w) (runLength w) k (λ j. runIn w b (runPlace w n j)) (h + d) (λ j l. run-again w b y (runPlace w n j) (f .each-run j l .0)) in
+    let duties = cut-flat b dutyBytes dutyLength n (λ i. dutyIn b (dutyPlace w i)) h
+    (λ i l. duty-again w b y (dutyPlace w i) (f .each-duty i l .0)) in
+    let runs = cut-flat b (runBytes w) (runLength w) k (λ j. runIn w b (runPlace w n j)) (h + d)
+    (λ j l. run-again w b y (runPlace w n j) (f .each-run j l .0)) in
     rw (
       head-formed w b n k y f,
       duties,

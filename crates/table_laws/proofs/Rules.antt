@@ -56,7 +56,8 @@ order-after : (xs : List Run) → InOrder xs → (j d : ℕ) → j + suc d < len
 order-after xs o j zero h = o j h
 order-after xs o j (suc d) h =
     let e : j + suc (suc d) ≡ j + suc d + 1 = omega arith in
-    rw e (before-trans (runAt xs j) (runAt xs (j + suc d)) (runAt xs (j + suc d + 1)) (order-after xs o j d (omega arith)) (o (j + suc d) (omega arith)))
+    rw e (before-trans (runAt xs j) (runAt xs (j + suc d)) (runAt xs (j + suc d + 1)) (order-after xs o j d (omega arith))
+    (o (j + suc d) (omega arith)))
 
 pub order-any : (xs : List Run) → InOrder xs → (j k : ℕ) → j < k → k < length xs → before (runAt xs j) (runAt xs k) ≡ true
 order-any xs o j k l h = let e : k ≡ j + suc (k - j - 1) = omega arith in rw e (order-after xs o j (k - j - 1) (omega arith))
@@ -102,12 +103,10 @@ NoPair bad xs = (j k : ℕ) → j < k → k < length xs → bad (runAt xs j) (ru
 
 -- the search of 14, 15 and 16 finds no run exactly when no two runs are so
 pub lowest-none : (bad : Run → Run → Bool) (xs : List Run) → ltb (lowest bad xs) (length xs) ≡ false → NoPair bad xs
-unfolding lowest
 lowest-none bad xs h j k l m =
     none-clear (λ i. bad (runAt xs i) (runAt xs k)) k (none-clear (λ i. any (λ n. bad (runAt xs n) (runAt xs i)) i) (length xs) h k m) j l
 
 pub none-lowest : (bad : Run → Run → Bool) (xs : List Run) → NoPair bad xs → ltb (lowest bad xs) (length xs) ≡ false
-unfolding lowest
 none-lowest bad xs c =
     clear-none (λ k. any (λ j. bad (runAt xs j) (runAt xs k)) k) (length xs)
     (λ k m. clear-none (λ j. bad (runAt xs j) (runAt xs k)) k (λ j l. c j k l m))
@@ -142,7 +141,8 @@ pub twice-apart : (x y : Run) → twice x y ≡ false → x .duty ≡ y .duty �
 unfolding twice
 twice-apart x y h d r = meet-apart x y (rw (ne-eqb (x .row .0) (y .row .0) r, eq-eqb (x .duty) (y .duty) d) at h)
 
-pub apart-twice : (x y : Run) → 1 ≤ x .length → 1 ≤ y .length → (x .duty ≡ y .duty → (x .row .0 ≡ y .row .0 → ⊥) → Apart x y) → twice x y ≡ false
+pub apart-twice : (x y : Run) → 1 ≤ x .length → 1 ≤ y .length → (x .duty ≡ y .duty → (x .row .0 ≡ y .row .0 → ⊥) → Apart x y) → twice x y
+    ≡ false
 unfolding twice
 apart-twice x y lx ly a =
     by-cases (eqb (x .row .0) (y .row .0))
@@ -153,7 +153,8 @@ apart-twice x y lx ly a =
 
 -- 15 of all runs: a run of the same row that stops where this one starts is another and stands before it
 abbrev pub NotJoined : List Run → Type 0
-NotJoined xs = (j k : ℕ) → j < length xs → k < length xs → runAt xs j .row .0 ≡ runAt xs k .row .0 → runAt xs j .duty ≡ runAt xs k .duty → stop (runAt xs j) ≡ runAt xs k .first → ⊥
+NotJoined xs = (j k : ℕ) → j < length xs → k < length xs → runAt xs j .row .0 ≡ runAt xs k .row .0 → runAt xs j .duty ≡ runAt xs k .duty
+    → stop (runAt xs j) ≡ runAt xs k .first → ⊥
 
 pub joins-any : (xs : List Run) → InOrder xs → ((k : ℕ) → k < length xs → 1 ≤ runAt xs k .length) → NoPair joins xs → NotJoined xs
 joins-any xs o long n j k hj hk r d s =

@@ -2,10 +2,10 @@
 -- after the last run is of another kind, so no more runs are read, and nothing follows the end record.
 -- Assumes nothing.
 use Prim.Native.Nat.{ℕ, _+_, _^_, _<_}
-use mathlib.Core.Path.{_≡_, sym, ap}
+use mathlib.Core.Path.{_≡_, sym, ap, _∙_}
 use mathlib.Core.Bool.{Bool, true, false, not, and-false}
 use native.Mathlib.Omega.{arith}
-use lib.Dec.{leb}
+use lib.Dec.{leb, ltb}
 use lib.ListN.{length}
 use borrow.Author.Tests.{le-leb, lt-ltb, le-ltb, eq-eqb, ne-eqb}
 use Rattle.laws.specs.Search.{first}
@@ -16,10 +16,14 @@ use Rattle.laws.proofs.Parts.{holds-first}
 use Rattle.paper.specs.Duties.{dutyAt}
 use Rattle.paper.specs.Words.{stop, Table, runAt}
 use Rattle.paper.specs.Outcome.{answer}
-use Rattle.paper.specs.Bytes.{Width, small, mostTicks, endBytes, encode, endLength, dutyPlace, runPlace, runLength, stands, headGood, dutyGood, runGood, endGood, badDuty, goodRuns, afterRuns, afterHead, parse}
+use Rattle.paper.specs.Limits.{Width, small, mostTicks, endLength, runLength}
+use Rattle.paper.specs.Bytes.{endBytes, encode, dutyPlace, runPlace, stands, headGood, dutyGood, runGood, endGood, badDuty, goodRuns}
+use Rattle.paper.specs.Bytes.{afterRuns, afterHead, parse}
 use Rattle.paper.specs.Statements.{Ranged}
+use Rattle.table_laws.proofs.Forms.{head-good, duties-good, all-good}
 use Rattle.table_laws.proofs.Bytes.{length-encode, head-stands, duty-stands, run-stands, end-stands}
-use Rattle.table_laws.proofs.Fields.{InFields, head-kind, ticks-read, engines-read, duties-read, duty-kind, duty-read, run-kind, run-read, end-kind, end-read, table-read}
+use Rattle.table_laws.proofs.Fields.{InFields, head-kind, ticks-read, engines-read, duties-read, duty-kind, duty-read, run-kind}
+use Rattle.table_laws.proofs.Fields.{run-read, end-kind, end-read, table-read}
 use Rattle.paper.proofs.Passed.{duty-decides}
 
 -- a width whose ranges fit its fields, and whose runs are not taken for the end
@@ -37,7 +41,12 @@ small-sound = record { engines-fit = omega arith; duties-fit = omega arith; runs
 pub ranged-fits : (w : Width) (t : Table) → Sound w → Ranged w t → InFields w t
 ranged-fits w t s r =
     record {
-      head = record { ticks = omega (arith, r .ticks-most); engines = omega (arith, r .engines-most, s .engines-fit); duties = omega (arith, r .duties-most, s .duties-fit) };
+      head = record {
+        ticks = omega (arith, r .ticks-most);
+        engines = omega (arith, r .engines-most, s .engines-fit);
+        duties =
+            omega (arith, r .duties-most, s .duties-fit);
+      };
       each-duty = λ i h. record { service = omega (arith, r .duty-ranged i h); period = omega (arith, r .duty-ranged i h) };
       each-run = λ k h.
           record {
@@ -56,7 +65,6 @@ module _ (w : Width) (t : Table) (s : Sound w) (r : Ranged w t) where
 
   -- the head passes its test
   head-passes : headGood w (encode w t) ≡ true
-  unfolding headGood
   head-passes =
       rw (
         head-kind w t (encode w t) (head-stands w t),
@@ -73,7 +81,6 @@ module _ (w : Width) (t : Table) (s : Sound w) (r : Ranged w t) where
 
   -- so does each duty's
   duty-passes : (d : ℕ) → d < length (t .duties) → dutyGood (encode w t) (dutyPlace w d) ≡ true
-  unfolding dutyGood
   duty-passes d h =
       let x = dutyAt (t .duties) d in
       rw (
@@ -84,7 +91,6 @@ module _ (w : Width) (t : Table) (s : Sound w) (r : Ranged w t) where
 
   -- each run's
   run-passes : (k : ℕ) → k < length (t .runs) → runGood w (encode w t) (runPlace w (length (t .duties)) k) ≡ true
-  unfolding runGood
   run-passes k h =
       let x = runAt (t .runs) k in
       let at = runPlace w (length (t .duties)) k in
@@ -103,15 +109,18 @@ module _ (w : Width) (t : Table) (s : Sound w) (r : Ranged w t) where
 
   -- and the end record
   end-passes : endGood (encode w t) (runPlace w (length (t .duties)) (length (t .runs))) (length (t .runs)) ≡ true
-  unfolding endGood
   end-passes =
       let k = length (t .runs) in
       let at = runPlace w (length (t .duties)) k in
-      rw (end-kind k (encode w t) at (end-stands w t), eq-eqb (numAt 2 (encode w t) (at + 1)) k (end-read k (encode w t) at (end-stands w t) (fits .runs)))
+      rw (
+        end-kind k (encode w t) at (end-stands w t),
+        eq-eqb (numAt 2 (encode w t) (at + 1)) k
+            (end-read k (encode w t) at (end-stands w t) (fits .runs)),
+      )
 
   -- the end record is no run
   end-no-run : runGood w (encode w t) (runPlace w (length (t .duties)) (length (t .runs))) ≡ false
-  unfolding runGood stands endBytes
+  unfolding stands endBytes
   end-no-run =
       let at = runPlace w (length (t .duties)) (length (t .runs)) in
       let four = holds-first 4 (digits 2 (length (t .runs))) (end-stands w t) in
@@ -119,31 +128,24 @@ module _ (w : Width) (t : Table) (s : Sound w) (r : Ranged w t) where
 
   -- so no duty record is bad
   no-bad-duty : badDuty w (encode w t) (length (t .duties)) ≡ length (t .duties)
-  unfolding badDuty
   no-bad-duty = first-none (λ d. not (dutyGood (encode w t) (dutyPlace w d))) (length (t .duties)) (λ d h. ap not (duty-passes d h))
 
   -- and all runs are read, no more
   all-runs : goodRuns w (encode w t) (length (t .duties)) ≡ length (t .runs)
-  unfolding goodRuns
   all-runs =
       let test : ℕ → Bool = λ k. not (runGood w (encode w t) (runPlace w (length (t .duties)) k)) in
       lt-or-le (length (t .runs)) (w .mostRuns)
       (λ l. first-is test (w .mostRuns) (length (t .runs)) l (λ k h. ap not (run-passes k h)) (ap not end-no-run))
-      (λ l. let e : length (t .runs) ≡ w .mostRuns = omega (arith, r .runs-most) in rw e (first-none test (w .mostRuns) (λ k h. ap not (run-passes k (omega arith)))))
+      (λ l. let e : length (t .runs) ≡ w .mostRuns = omega (arith, r .runs-most) in rw e
+      (first-none test (w .mostRuns) (λ k h. ap not (run-passes k (omega arith)))))
 
   -- "Order: one kind 1, one kind 2 for each duty, the runs, one kind 4, nothing after": what was written is read
   pub parse-encode : parse w (encode w t) ≡ answer t
-  unfolding parse afterHead afterRuns
   parse-encode =
+      let b = encode w t in
       let n = length (t .duties) in
       let k = length (t .runs) in
-      rw (
-        head-passes,
-        duties-read w t fits,
-        no-bad-duty,
-        le-ltb n n (omega arith),
-        all-runs,
-        end-passes,
-        le-ltb (runPlace w n k + endLength) (length (encode w t)) (omega (arith, length-encode w t)),
-        table-read w t fits,
-      )
+      let full = le-ltb (runPlace w n k + endLength) (length b) (omega (arith, length-encode w t)) in
+      head-good w b (ap not head-passes) ∙ ap (afterHead w b) (duties-read w t fits)
+      ∙ duties-good w b n (ap (λ d. ltb d n) no-bad-duty ∙ le-ltb n n (omega arith)) ∙ ap (afterRuns w b n) all-runs
+      ∙ all-good w b n k (ap not end-passes) full ∙ ap answer (table-read w t fits)

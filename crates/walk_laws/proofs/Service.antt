@@ -23,7 +23,7 @@ use Rattle.paper.specs.Words.{row, slice, Table, runAt, heldIn}
 use Rattle.paper.specs.Rotation.{link, rowAt}
 use Rattle.paper.specs.Walk.{walk}
 use Rattle.paper.specs.Schedule.{given, served}
-use Rattle.paper.specs.Bytes.{Width}
+use Rattle.paper.specs.Limits.{Width}
 use Rattle.paper.specs.Rules.{unitsOf}
 use Rattle.paper.specs.Statements.{Ranged, Meets}
 use Rattle.paper.proofs.Rotation.{row-sum, row-one}
@@ -55,7 +55,8 @@ meets-serving {w} {t} r m =
     }
 
 -- on a unit of any block a duty runs on as many engines as it has runs there
-pub engines-unit : (t : Table) → Serving t → (i b u : ℕ) → sumTo (t .engines) (λ e. one-if (same (heldIn (t .runs) (rowAt (link t) b (engine e)) u) (By i))) ≡ onUnit (t .runs) i u
+pub engines-unit : (t : Table) → Serving t → (i b u : ℕ) → sumTo (t .engines)
+    (λ e. one-if (same (heldIn (t .runs) (rowAt (link t) b (engine e)) u) (By i))) ≡ onUnit (t .runs) i u
 engines-unit t l i b u =
     row-sum (link t) (t .engines) (rows-end t (l .closed)) b (λ r. one-if (same (heldIn (t .runs) (row r) u) (By i)))
     ∙ rows-unit (t .engines) (t .runs) (l .apart-in-row) (l .rows-below) i u
@@ -70,7 +71,8 @@ pub one-engine : (t : Table) → Serving t → (i k e d : ℕ) → walk t (engin
 unfolding walk
 one-engine t l i k e d p q =
     let b = k / t .ticks in
-    row-one (link t) b e d (one-row (t .runs) (l .apart-of-duty) (rowAt (link t) b (engine e)) (rowAt (link t) b (engine d)) (k % t .ticks) i p q)
+    row-one (link t) b e d
+    (one-row (t .runs) (l .apart-of-duty) (rowAt (link t) b (engine e)) (rowAt (link t) b (engine d)) (k % t .ticks) i p q)
 
 -- .. counted: a duty runs on at most one engine in a tick
 pub given-once : (t : Table) → Serving t → (i k : ℕ) → given (t .engines) (walk t) i k ≤ 1
@@ -80,7 +82,8 @@ given-once t l i k =
     (λ e d h b p q. omega (arith, one-engine t l i k e d (same-held (walk t (engine e) k) i p) (same-held (walk t (engine d) k) i q)))
 
 -- service over n whole blocks from block b on: n times the units of the duty's runs
-pub served-blocks : (t : Table) → Serving t → (i b n : ℕ) → served (t .engines) (walk t) i (b * t .ticks) (n * t .ticks) ≡ n * unitsOf (t .runs) i
+pub served-blocks : (t : Table) → Serving t → (i b n : ℕ) → served (t .engines) (walk t) i (b * t .ticks) (n * t .ticks)
+    ≡ n * unitsOf (t .runs) i
 unfolding served
 served-blocks t l i b n =
     sum-blocks n T (λ j. given (t .engines) (walk t) i (b * T + j))
@@ -96,7 +99,8 @@ served-blocks t l i b n =
         rw e (given-unit t l i ((b + c) * T + u) ∙ ap (onUnit (t .runs) i) (digits-mod (b + c) h))
 
     block : (c : ℕ) → sumTo T (λ u. given (t .engines) (walk t) i (b * T + (c * T + u))) ≡ unitsOf (t .runs) i
-    block c = sum-ext T (λ u. given (t .engines) (walk t) i (b * T + (c * T + u))) (onUnit (t .runs) i) (λ u h. unit c u h) ∙ units-block T (t .runs) (l .inside) i
+    block c = sum-ext T (λ u. given (t .engines) (walk t) i (b * T + (c * T + u))) (onUnit (t .runs) i) (λ u h. unit c u h)
+        ∙ units-block T (t .runs) (l .inside) i
 
 -- ---- jobs
 
@@ -110,7 +114,8 @@ slices-service t x h d w =
     (sym (mul-assoc t n s) ∙ ap (λ (y : ℕ). y * s) (mul-comm t n ∙ div-mul-cancel t d) ∙ mul-div-cancel' (x .period) w)
 
 -- a job is D/T whole blocks; it gets the service where the duty's runs add up to the slice
-pub job-blocks : (t : Table) → Serving t → (i : ℕ) (x : Duty) → t .ticks ∣ x .period → x .period ∣ t .ticks * x .service → unitsOf (t .runs) i ≡ slice (t .ticks) x → (q : ℕ) → served (t .engines) (walk t) i (jobStart x q) (x .period) ≡ x .service
+pub job-blocks : (t : Table) → Serving t → (i : ℕ) (x : Duty) → t .ticks ∣ x .period → x .period ∣ t .ticks * x .service
+    → unitsOf (t .runs) i ≡ slice (t .ticks) x → (q : ℕ) → served (t .engines) (walk t) i (jobStart x q) (x .period) ≡ x .service
 job-blocks t l i x d w s q =
     let n = x .period / t .ticks in
     let e = div-mul-cancel (t .ticks) d in
@@ -124,7 +129,8 @@ job-blocks t l i x d w s q =
 -- ---- accepted tables
 
 -- service: in every accepted table each job of each duty gets the duty's service
-pub job-served : {w : Width} (t : Table) → Ranged w t → Meets t → (i : ℕ) → i < length (t .duties) → (q : ℕ) → served (t .engines) (walk t) i (jobStart (dutyAt (t .duties) i) q) (dutyAt (t .duties) i .period) ≡ dutyAt (t .duties) i .service
+pub job-served : {w : Width} (t : Table) → Ranged w t → Meets t → (i : ℕ) → i < length (t .duties) → (q : ℕ)
+    → served (t .engines) (walk t) i (jobStart (dutyAt (t .duties) i) q) (dutyAt (t .duties) i .period) ≡ dutyAt (t .duties) i .service
 job-served t r m i h q =
     job-blocks t (meets-serving r m) i (dutyAt (t .duties) i) (ticks-divides t m i h) (m .slices-whole i h) (m .sums-right i h) q
 

@@ -21,7 +21,7 @@ use Rattle.paper.specs.declared.Held.the-variants.{By}
 use Rattle.paper.specs.Duties.{same, busy}
 use Rattle.paper.specs.Words.{row, stop, Table, runAt, heldIn}
 use Rattle.paper.specs.Walk.{loads}
-use Rattle.paper.specs.Bytes.{Width}
+use Rattle.paper.specs.Limits.{Width}
 use Rattle.paper.specs.Statements.{Ranged, Meets, Has}
 use Rattle.table_laws.proofs.Rules.{NotJoined}
 use Rattle.paper.proofs.Holding.{Covering, covering-other, RowsApart, has-covers, covers-has, covers-row, held-cases, held-by, covering-one}
@@ -63,7 +63,8 @@ module _ (m t : ℕ) (xs : List Run) (ok : Laid m t xs) where
       let z : runAt xs k .first ≡ u = eqb-true (runAt xs k .first) u (and-right of-row (eqb (runAt xs k .first) u) p) in
       record {
         below = h;
-        covering = has-covers (runAt xs k) (row r) u (eqb-true (runAt xs k .row .0) r (and-left of-row (eqb (runAt xs k .first) u) p)) (omega (arith, ok .some-units k h));
+        covering = has-covers (runAt xs k) (row r) u (eqb-true (runAt xs k .row .0) r (and-left of-row (eqb (runAt xs k .first) u) p))
+            (omega (arith, ok .some-units k h));
       }
 
   -- at a unit that no run covers none starts
@@ -87,10 +88,12 @@ module _ (m t : ℕ) (xs : List Run) (ok : Laid m t xs) where
       held-cases xs (row r) 0
       (λ e n. ap (λ h. one-if (busy h)) e ∙ sym (starts-none r 0 n))
       (λ k c e. ap (λ h. one-if (busy h)) e
-      ∙ sym (starts-one r 0 k c ∙ ap one-if (eq-eqb (runAt xs k .first) 0 (omega (arith, covers-has (runAt xs k) (row r) 0 (c .covering))))))
+      ∙ sym (starts-one r 0 k c ∙ ap one-if
+      (eq-eqb (runAt xs k .first) 0 (omega (arith, covers-has (runAt xs k) (row r) 0 (c .covering))))))
 
   -- where a run starts, the unit before is not its duty's
-  start-differs : (r u k : ℕ) → Covering xs (row r) (suc u) k → runAt xs k .first ≡ suc u → same (By (runAt xs k .duty)) (heldIn xs (row r) u) ≡ false
+  start-differs : (r u k : ℕ) → Covering xs (row r) (suc u) k → runAt xs k .first ≡ suc u
+      → same (By (runAt xs k .duty)) (heldIn xs (row r) u) ≡ false
   unfolding same
   start-differs r u k c p =
       held-cases xs (row r) u
@@ -111,12 +114,14 @@ module _ (m t : ℕ) (xs : List Run) (ok : Laid m t xs) where
           (omega (arith, stops j d, covers-has (runAt xs j) (row r) u (d .covering)))
 
   -- where a run goes on, the unit before is its duty's
-  on-same : (r u k : ℕ) → Covering xs (row r) (suc u) k → (runAt xs k .first ≡ suc u → ⊥) → same (By (runAt xs k .duty)) (heldIn xs (row r) u) ≡ true
+  on-same : (r u k : ℕ) → Covering xs (row r) (suc u) k → (runAt xs k .first ≡ suc u → ⊥)
+      → same (By (runAt xs k .duty)) (heldIn xs (row r) u) ≡ true
   unfolding same
   on-same r u k c n =
       let has : Has (runAt xs k) (suc u) = covers-has (runAt xs k) (row r) (suc u) (c .covering) in
       let low : runAt xs k .first ≤ u = lt-or-le u (runAt xs k .first) (λ l. absurd (n (omega arith))) (λ l. l) in
-      ap (same (By (runAt xs k .duty))) (held-by xs (row r) u (ok .apart) k (covering-other u c (omega arith))) ∙ eq-eqb (runAt xs k .duty) (runAt xs k .duty) refl
+      ap (same (By (runAt xs k .duty))) (held-by xs (row r) u (ok .apart) k (covering-other u c (omega arith)))
+      ∙ eq-eqb (runAt xs k .duty) (runAt xs k .duty) refl
 
   -- a unit after the first is a load exactly where a run starts there
   fresh-starts : (r u : ℕ) → fresh (heldIn xs (row r) (suc u)) (heldIn xs (row r) u) ≡ starts xs r (suc u)
@@ -137,7 +142,8 @@ module _ (m t : ℕ) (xs : List Run) (ok : Laid m t xs) where
       (λ r h. sum-swap t (length xs) (λ u k. one-if (startsAt (runAt xs k) r u)))
       ∙ sum-swap m (length xs) (λ r k. sumTo t (λ u. one-if (startsAt (runAt xs k) r u)))
       ∙ sum-ext (length xs) _ (λ k. 1)
-      (λ k h. count-cell m t (runAt xs k .row .0) (runAt xs k .first) (ok .row-below k h) (omega (arith, ok .some-units k h, ok .inside-block k h)))
+      (λ k h. count-cell m t (runAt xs k .row .0) (runAt xs k .first) (ok .row-below k h)
+      (omega (arith, ok .some-units k h, ok .inside-block k h)))
       ∙ sum-const (length xs) 1 ∙ omega arith
 
 module _ (t : Table) (ends : Closed t) (ok : Laid (t .engines) (t .ticks) (t .runs)) where
@@ -149,7 +155,8 @@ module _ (t : Table) (ends : Closed t) (ok : Laid (t .engines) (t .ticks) (t .ru
       omega (
         arith,
         opening-starts (t .engines) (t .ticks) (t .runs) ok r,
-        sum-ext (t .ticks - 1) (λ u. fresh (heldIn (t .runs) (row r) (suc u)) (heldIn (t .runs) (row r) u)) (λ u. starts (t .runs) r (suc u))
+        sum-ext (t .ticks - 1) (λ u. fresh (heldIn (t .runs) (row r) (suc u)) (heldIn (t .runs) (row r) u))
+            (λ u. starts (t .runs) r (suc u))
             (λ u h. fresh-starts (t .engines) (t .ticks) (t .runs) ok r u),
         sum-first (t .ticks - 1) (starts (t .runs) r),
         ap (λ n. sumTo n (starts (t .runs) r)) z,
@@ -169,7 +176,8 @@ module _ (t : Table) (ends : Closed t) (ok : Laid (t .engines) (t .ticks) (t .ru
 
   -- the count of B blocks, from the runs and what is carried
   pub loads-by-runs : (n : ℕ) → loads t (n + 1) ≡ length (t .runs) + n * (length (t .runs) - carried t)
-  loads-by-runs n = loads-closed t ends n ∙ ap (λ x. x + n * later t) loads-runs ∙ ap (λ x. length (t .runs) + n * x) (omega (arith, later-runs))
+  loads-by-runs n = loads-closed t ends n ∙ ap (λ x. x + n * later t) loads-runs
+      ∙ ap (λ x. length (t .runs) + n * x) (omega (arith, later-runs))
 
   -- .. with no blocks too
   pub loads-of : (n : ℕ) → loads t n ≡ pick (eqb n 0) 0 (length (t .runs) + (n - 1) * (length (t .runs) - carried t))

@@ -83,7 +83,8 @@ counts-units t x i h =
 -- ---- all runs
 
 -- one run more adds where it covers, since no later run of its row covers there too
-same-more : (x : Run) (xs : List Run) → RowsApart (x ∷ xs) → (i r u : ℕ) → one-if (same (heldIn (x ∷ xs) (row r) u) (By i)) ≡ counts x i r u + one-if (same (heldIn xs (row r) u) (By i))
+same-more : (x : Run) (xs : List Run) → RowsApart (x ∷ xs) → (i r u : ℕ) → one-if (same (heldIn (x ∷ xs) (row r) u) (By i))
+    ≡ counts x i r u + one-if (same (heldIn xs (row r) u) (By i))
 same-more x xs a i r u =
     by-cases (covers x (row r) u)
     (λ h. let idle = held-idle xs (row r) u (λ k l. covers-none h k l) in
@@ -93,16 +94,23 @@ same-more x xs a i r u =
     covers-none : covers x (row r) u ≡ true → (k : ℕ) → k < length xs → covers (runAt xs k) (row r) u ≡ false
     covers-none h k l =
         refuted (covers (runAt xs k) (row r) u)
-        (λ q. a 0 (suc k) (omega arith) (omega arith) (covers-row x (row r) u h ∙ sym (covers-row (runAt xs k) (row r) u q)) u (covers-has x (row r) u h) (covers-has (runAt xs k) (row r) u q))
+        (λ q. a 0 (suc k) (omega arith) (omega arith) (covers-row x (row r) u h ∙ sym (covers-row (runAt xs k) (row r) u q)) u
+        (covers-has x (row r) u h) (covers-has (runAt xs k) (row r) u q))
 
 -- on each unit a duty holds as many rows as it has runs there
-pub rows-unit : (m : ℕ) (xs : List Run) → RowsApart xs → RowsBelow m xs → (i u : ℕ) → sumTo m (λ r. one-if (same (heldIn xs (row r) u) (By i))) ≡ onUnit xs i u
+pub rows-unit : (m : ℕ) (xs : List Run) → RowsApart xs → RowsBelow m xs → (i u : ℕ)
+    → sumTo m (λ r. one-if (same (heldIn xs (row r) u) (By i))) ≡ onUnit xs i u
 unfolding onUnit heldIn
 rows-unit m [] a below i u = sum-zero m (λ r. one-if (same Idle (By i))) (λ r l. rw (idle-same i))
 rows-unit m (x ∷ xs) a below i u =
-    sum-ext m (λ r. one-if (same (heldIn (x ∷ xs) (row r) u) (By i))) (λ r. counts x i r u + one-if (same (heldIn xs (row r) u) (By i))) (λ r l. same-more x xs a i r u)
+    sum-ext m (λ r. one-if (same (heldIn (x ∷ xs) (row r) u) (By i))) (λ r. counts x i r u + one-if (same (heldIn xs (row r) u) (By i)))
+    (λ r l. same-more x xs a i r u)
     ∙ sum-plus m (λ r. counts x i r u) (λ r. one-if (same (heldIn xs (row r) u) (By i)))
-    ∙ rw (counts-rows m x i u (below 0 (omega arith)), rows-unit m xs (λ j k l h. a (suc j) (suc k) (omega arith) (omega arith)) (λ k h. below (suc k) (omega arith)) i u)
+    ∙ rw (
+      counts-rows m x i u (below 0 (omega arith)),
+      rows-unit m xs (λ j k l h. a (suc j) (suc k) (omega arith) (omega arith))
+          (λ k h. below (suc k) (omega arith)) i u,
+    )
 
 -- over the units of a block that makes the units of its runs
 pub units-block : (t : ℕ) (xs : List Run) → Inside t xs → (i : ℕ) → sumTo t (λ u. onUnit xs i u) ≡ unitsOf xs i
@@ -126,4 +134,5 @@ one-row xs a r s u i p q =
         let f = covers-has (runAt xs j) r u (c .covering) in
         let g = covers-has (runAt xs k) s u (d .covering) in
         by-order j k (λ l. absurd (a j k l (d .below) e u f g)) (λ l. absurd (a k j l (c .below) (sym e) u g f))
-        (λ p. sym (covers-row (runAt xs j) r u (c .covering)) ∙ ap (λ (n : ℕ). runAt xs n .row .0) p ∙ covers-row (runAt xs k) s u (d .covering))
+        (λ p. sym (covers-row (runAt xs j) r u (c .covering)) ∙ ap (λ (n : ℕ). runAt xs n .row .0) p
+        ∙ covers-row (runAt xs k) s u (d .covering))
