@@ -2,7 +2,8 @@
 use Prim.Native.Nat.{ℕ}
 use mathlib.Core.List.{List, _∷_, _++_}
 use Rattle.laws.specs.Digits.{digits}
+use Rattle.paper.specs.Limits.{small}
 
 -- `headBytes small` of a table with block length t, m engines and n duties
 abbrev pub headOf : ℕ → ℕ → ℕ → List ℕ
-headOf t m n = 1 ∷ digits 4 t ++ digits 1 m ++ digits 1 n
+headOf t m n = small .headKind ∷ digits 4 t ++ digits 1 m ++ digits 1 n

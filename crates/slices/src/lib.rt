@@ -1,4 +1,4 @@
-// Arithmetic of a plan: a number's and a duty's ranges, and why a duty is out of range; the greatest common divisor; a duty's slice.
+// Arithmetic of a plan: a number's and a duty's ranges, and why a duty is out of range; the greatest common divisor; a duty's share.
 ghost use mathlib.Core.Path.{_≡_};
 ghost use mathlib.Core.List.{List};
 ghost use Prim.Native.Nat.{_*_, _/_, _%_, _≤_, _<_};
@@ -7,11 +7,11 @@ ghost use Rattle.laws.specs.Choice.{pick};
 ghost use Rattle.paper.specs.declared.Duty.{Duty};
 ghost use Rattle.paper.specs.Words.{slice, whole};
 ghost use Rattle.paper.specs.Outcome.{refused, refusedAs};
-ghost use Rattle.paper.specs.Bytes.{mostTicks, within, dutyRanged};
+ghost use Rattle.paper.specs.Limits.{mostTicks};
+ghost use Rattle.paper.specs.Bytes.{within, dutyRanged};
 use paper::Duty;
 use paper::Refusal;
-
-const MOST_TICKS: u32 = 1000000;
+use paper::limits::MOST_TICKS;
 
 // Whether a number is from low to high.
 pub fn is_within(low: usize, high: usize, v: usize) -> bool
@@ -93,10 +93,28 @@ pub fn is_whole(t: u32, x: Duty) -> bool
     scaled(t, x.service) % x.period as u64 == 0
 }
 
-// A duty's slice T·C/D. It is at most T, since C is at most D.
+// A duty's share of a block, T·C/D: whole units, and the part of a unit, in D-ths.
+pub struct Share {
+    pub units: u32,
+    pub rest: u32,
+}
+
+// The whole units are at most T, since C is at most D.
+pub fn share_of(t: u32, x: Duty) -> Share
+    requires { ⌜ (t ≤ mostTicks) × (x .service ≤ mostTicks) × (x .service ≤ x .period) × (0 < x .period) ⌝ }
+    ensures { λ r. ⌜ (r .units ≡ slice t x) × (r .rest ≡ t * x .service % x .period) × (r .units ≤ t) ⌝ }
+{
+    let all = scaled(t, x.service);
+    let period = x.period as u64;
+    let units = (all / period) as u32;
+    let rest = (all % period) as u32;
+    Share { units, rest }
+}
+
+// A duty's slice, where its share is whole.
 pub fn slice_of(t: u32, x: Duty) -> u32
     requires { ⌜ (t ≤ mostTicks) × (x .service ≤ mostTicks) × (x .service ≤ x .period) × (0 < x .period) ⌝ }
     ensures { λ r. ⌜ (r ≡ slice t x) × (r ≤ t) ⌝ }
 {
-    (scaled(t, x.service) / x.period as u64) as u32
+    share_of(t, x).units
 }

@@ -1,5 +1,5 @@
--- What a good form gives. Where the reader answers a reading, the bytes read as a table, so each record passed its test (`parsed`); the reading
--- is that of the table which stands in the bytes.
+-- What a good form gives. Where the reader answers a reading, the bytes read as a table, so each record passed its test (`parsed`); the
+-- reading is that of the table which stands in the bytes.
 -- Assumes nothing.
 use Prim.Native.Nat.{ℕ}
 use mathlib.Core.Path.{_≡_, refl, sym, ap, _∙_}
@@ -7,7 +7,8 @@ use mathlib.Core.List.{List}
 use native.Mathlib.Omega.{arith}
 use Rattle.paper.specs.declared.Reading.{Reading}
 use Rattle.paper.specs.Outcome.{answer, andThen}
-use Rattle.paper.specs.Bytes.{small, dutiesIn, goodRuns, tableIn, parse}
+use Rattle.paper.specs.Limits.{small}
+use Rattle.paper.specs.Bytes.{dutiesIn, goodRuns, tableIn, readTable}
 use Rattle.paper.specs.Rules.{readingOf}
 use Rattle.paper.proofs.Outcomes.{answer-one, then-answer}
 use Rattle.table_laws.proofs.Read.{InForm, parsed}
@@ -15,7 +16,8 @@ use Rattle.record_read.specs.Formed.{Formed}
 use Rattle.record_read.proofs.Table.{readingIn, reading-in}
 
 -- bytes whose records all passed give what those who read on need
-in-form : (b : List ℕ) (n k : ℕ) → dutiesIn small b ≡ n → goodRuns small b n ≡ k → InForm small b n k → parse small b ≡ answer (tableIn small b n k) → Formed b (readingIn b n k)
+in-form : (b : List ℕ) (n k : ℕ) → dutiesIn small b ≡ n → goodRuns small b n ≡ k → InForm small b n k
+    → readTable b ≡ answer (tableIn small b n k) → Formed b (readingIn b n k)
 in-form b n k d g F p =
     record {
       ticks = refl;
@@ -36,9 +38,9 @@ in-form b n k d g F p =
     }
 
 -- the bytes that the reader answers a reading to have passed every test, and it is their reading
-pub formed : (b : List ℕ) (rd : Reading) → andThen (parse small b) (λ t. answer (readingOf t)) ≡ answer rd → Formed b rd
+pub formed : (b : List ℕ) (rd : Reading) → andThen (readTable b) (λ t. answer (readingOf t)) ≡ answer rd → Formed b rd
 formed b rd h =
-    let a = then-answer (parse small b) (λ t. answer (readingOf t)) rd h in
+    let a = then-answer (readTable b) (λ t. answer (readingOf t)) rd h in
     let n = dutiesIn small b in
     let k = goodRuns small b n in
     let P = parsed small b (a .0) (a .1) in

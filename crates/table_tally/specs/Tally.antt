@@ -1,28 +1,33 @@
--- What one pass over the runs of a table gathers: the units of each duty, and which duty holds the first and which the last unit of each row.
-use Prim.Native.Nat.{ℕ, _+_, _-_}
+-- What one pass over the runs of a table gathers: the units of each duty, and which duty holds the first and which the last unit of each
+-- row.
+use Prim.Native.Nat.{ℕ, _+_, _-_, _/_, _%_}
 use mathlib.Core.List.{List}
+use lib.Dec.{eqb}
+use Rattle.laws.specs.Choice.{pick}
 use Rattle.laws.specs.Lists.{tab}
 use Rattle.paper.specs.declared.Run.{Run}
 use Rattle.paper.specs.declared.Held.{Held}
 use Rattle.paper.specs.declared.Held.the-variants.{Idle, By}
+use Rattle.paper.specs.Limits.{mostDuties, edgeCount}
 use Rattle.paper.specs.Words.{row, Table, heldIn}
 use Rattle.paper.specs.Rules.{unitsOf}
 
--- the units of all runs of each of 64 duties
-unfoldable pub unitsIn : Table → List ℕ
-unitsIn t = tab 64 (λ i. unitsOf (t .runs) i)
+-- the units of all runs of each duty that there may be
+abbrev pub unitsIn : Table → List ℕ
+unitsIn t = tab mostDuties (λ i. unitsOf (t .runs) i)
 
 -- what holds a unit as one number: 0 for idle, else the duty's number and 1
 abbrev pub code : Held → ℕ
 code Idle = 0
 code (By i) = i + 1
 
--- what holds unit u of each of 32 rows, and of one row past them, which is idle
-unfoldable pub edgeAt : List Run → ℕ → List ℕ
-edgeAt xs u = tab 33 (λ r. code (heldIn xs (row r) u))
+-- the edges of the rows: of row r its first unit at 2·r and its last at 2·r + 1; what holds each, by some runs in blocks of t ticks
+abbrev pub edgeUnit : ℕ → ℕ → ℕ
+edgeUnit t k = pick (eqb (k % 2) 0) 0 (t - 1)
 
-abbrev pub startsOf : Table → List ℕ
-startsOf t = edgeAt (t .runs) 0
+abbrev pub edgeOf : List Run → ℕ → ℕ → ℕ
+edgeOf xs t k = code (heldIn xs (row (k / 2)) (edgeUnit t k))
 
-abbrev pub endsOf : Table → List ℕ
-endsOf t = edgeAt (t .runs) (t .ticks - 1)
+-- of all rows that there may be, and of one row past them, which is idle
+abbrev pub edgesOf : Table → List ℕ
+edgesOf t = tab edgeCount (edgeOf (t .runs) (t .ticks))

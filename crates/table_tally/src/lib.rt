@@ -4,24 +4,25 @@ ghost use mathlib.Core.Path.{_≡_};
 ghost use Prim.Native.Nat.{_+_, _≤_, _<_};
 ghost use Rattle.laws.specs.Choice.{pick};
 ghost use Rattle.paper.specs.Words.{stop, covers};
-ghost use Rattle.paper.specs.Bytes.{mostTicks};
+ghost use Rattle.paper.specs.Limits.{mostTicks, mostDuties};
 ghost use Rattle.record_read.specs.Formed.{Formed, tableOf};
-ghost use Rattle.table_tally.specs.Tally.{unitsIn, startsOf, endsOf};
+ghost use Rattle.table_tally.specs.Tally.{unitsIn, edgesOf};
 use paper::Reading;
 use paper::Run;
+use paper::limits::EDGES;
+use paper::limits::MOST_DUTIES;
 use record_read::run_of;
 
-// What the pass gathers: the units of each of 64 duties; what holds the first and the last unit of each of 32 rows, and of
-// one row past them: 0 for idle, else the duty's number and 1.
+// What the pass gathers: the units of each duty; and the edges of the rows, what holds the first and the last unit of each and of one row
+// past them, one after the other: 0 for idle, else the duty's number and 1.
 pub struct Tally {
-    pub units: [u32; 64],
-    pub starts: [u32; 33],
-    pub ends: [u32; 33],
+    pub units: [u32; MOST_DUTIES],
+    pub edges: [u32; EDGES],
 }
 
 // What holds a unit of a run's row: the run's duty where the run has the unit, else what held it before.
 fn edge(x: Run, unit: u32, old: u32) -> u32
-    requires { ⌜ (stop x ≤ mostTicks) × (x .duty < 64) ⌝ }
+    requires { ⌜ (stop x ≤ mostTicks) × (x .duty < mostDuties) ⌝ }
     ensures { λ r. ⌜ r ≡ pick (covers x (x .row) unit) (x .duty + 1) old ⌝ }
 {
     if (x.first <= unit) & (unit < x.first + x.length) {
@@ -34,25 +35,22 @@ fn edge(x: Run, unit: u32, old: u32) -> u32
 // The tally of a table. The first run that has a unit holds it, so the runs are passed from the last to the first.
 pub fn tally_of(b: &[u8], rd: Reading) -> Tally
     requires { ⌜ Formed (now b) rd ⌝ }
-    ensures { λ r. ⌜ (r .units ≡ unitsIn (tableOf (now (b .entry)) rd)) × (r .starts ≡ startsOf (tableOf (now (b .entry)) rd)) × (r .ends ≡ endsOf (tableOf (now (b .entry)) rd)) ⌝ }
+    ensures { λ r. ⌜ (r .units ≡ unitsIn (tableOf (now (b .entry)) rd)) × (r .edges ≡ edgesOf (tableOf (now (b .entry)) rd)) ⌝ }
 {
-    let mut units = [0u32; 64];
-    let mut starts = [0u32; 33];
-    let mut ends = [0u32; 33];
+    let mut units = [0u32; MOST_DUTIES];
+    let mut edges = [0u32; EDGES];
     let last = rd.block_length - 1;
     let mut k = rd.runs as usize;
     while 0 < k {
         k -= 1;
         let x = run_of(b, rd, k);
         let d = x.duty as usize;
-        let r = x.row.0 as usize;
+        let at = 2 * x.row.0 as usize;
+        let first = edge(x, 0, edges[at]);
+        let ending = edge(x, last, edges[at + 1]);
         units[d] += x.length;
-        starts[r] = edge(x, 0, starts[r]);
-        ends[r] = edge(x, last, ends[r]);
+        edges[at] = first;
+        edges[at + 1] = ending;
     }
-    Tally {
-        units,
-        starts,
-        ends,
-    }
+    Tally { units, edges }
 }

@@ -3,7 +3,7 @@ ghost use mathlib.Core.Path.{_≡_};
 ghost use Prim.Native.Nat.{_≤_, _<_};
 ghost use Rattle.laws.specs.Search.{first};
 ghost use Rattle.paper.specs.Words.{stop, covers, runAt, heldIn};
-ghost use Rattle.paper.specs.Bytes.{mostTicks};
+ghost use Rattle.paper.specs.Limits.{mostTicks};
 ghost use Rattle.record_read.specs.Formed.{Formed, tableOf};
 use paper::Held;
 use paper::Reading;

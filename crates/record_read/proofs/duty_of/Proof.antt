@@ -6,21 +6,13 @@ use borrow.Author.Needs.{needs}
 use Rattle.record_read.proofs.duty_of.Statement.{statement}
 use Rattle.record_read.proofs.duty_of.Tie as tie
 
-duty-place-requires : tie.Need-duty-place-requires
-duty-place-requires c κs = search needs
-
-read-duty-requires : tie.Need-read-duty-requires
-read-duty-requires c κs = search needs
-
 returns : tie.Need-returns
 returns c =
-    let h = c .before .before .before .pre .1 in (
-      rw (
-        c .read-duty .ensures,
-        c .before .duty-place .ensures,
-      ) (sym (table-duty _ (c .before .before .before .args .rd) _ h)),
-      rw (c .read-duty .ensures, c .before .duty-place .ensures) (c .before .before .before .pre .0 .duty-ranged _ h),
+    let start = c .before .before .before in
+    let place = c .before .duty-place .ensures in (
+      rw (c .read-duty .ensures, place) (sym (table-duty _ (start .args .rd) _ (start .pre .1))),
+      rw (c .read-duty .ensures, place) (start .pre .0 .duty-ranged _ (start .pre .1)),
     )
 
 pub duty-of-spec : {M : Type 1} → statement M
-duty-of-spec = tie.close (tie.spec duty-place-requires read-duty-requires returns)
+duty-of-spec = tie.close (tie.spec (λ c κs. search needs) (λ c κs. search needs) returns)

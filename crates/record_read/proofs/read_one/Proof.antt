@@ -6,14 +6,8 @@ use borrow.Author.Needs.{needs}
 use Rattle.record_read.proofs.read_one.Statement.{statement}
 use Rattle.record_read.proofs.read_one.Tie as tie
 
-shared-slice-read-wide : tie.Need-shared-slice-read-wide
-shared-slice-read-wide c = search needs
-
-wide-requires : tie.Need-wide-requires
-wide-requires c κs = search needs
-
 returns : tie.Need-returns
 returns c = (c .wide .ensures .0 ∙ sym (numAt-one _ _), c .wide .ensures .1)
 
 pub read-one-spec : {M : Type 1} → statement M
-read-one-spec = tie.close (tie.spec shared-slice-read-wide wide-requires returns)
+read-one-spec = tie.close (tie.spec (λ c. search needs) (λ c κs. search needs) returns)

@@ -6,7 +6,7 @@ use native.Mathlib.Omega.{arith}
 use lib.ListN.{length}
 use borrow.Author.Tests.{not-true, not-false}
 use Rattle.paper.proofs.Passed.{standing}
-use Rattle.paper.specs.Bytes.{dutyGood}
+use Rattle.paper.specs.Limits.{dutyKind, dutyLength}
 use borrow.Author.Needs.{needs}
 use Rattle.record_tests.proofs.duty_good.Statement.{statement}
 use Rattle.record_tests.proofs.duty_good.Tie as tie
@@ -15,12 +15,11 @@ record-stands-requires : tie.Need-record-stands-requires
 record-stands-requires c κs = search needs
 
 returns : tie.Need-returns
-unfolding dutyGood
 returns c = rw (sym (c .before .record-stands .ensures) ∙ not-true _ (c .if1 .taken))
 
 -- the record is all there
-long : (c : tie.Else1) → c .before .before .before .args .at + 9 ≤ length (c .before .before .before .args .b .now)
-long c = standing _ _ 2 9 (sym (c .before .record-stands .ensures) ∙ not-false _ (c .if1 .left)) .room
+long : (c : tie.Else1) → c .before .before .before .args .at + dutyLength ≤ length (c .before .before .before .args .b .now)
+long c = standing _ _ dutyKind dutyLength (sym (c .before .record-stands .ensures) ∙ not-false _ (c .if1 .left)) .room
 
 read-duty-requires : tie.Need-read-duty-requires
 read-duty-requires c κs = omega (arith, long c)
@@ -29,7 +28,6 @@ duty-in-range-requires : tie.Need-duty-in-range-requires
 duty-in-range-requires c κs = search needs
 
 returns-2 : tie.Need-returns-2
-unfolding dutyGood
 returns-2 c =
     rw (
       c .duty-in-range .ensures,

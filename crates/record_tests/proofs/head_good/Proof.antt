@@ -5,7 +5,7 @@ use Prim.Native.Nat.{_≤_}
 use native.Mathlib.Omega.{arith}
 use lib.ListN.{length}
 use borrow.Author.Tests.{not-true, not-false}
-use Rattle.paper.specs.Bytes.{headGood}
+use Rattle.paper.specs.Limits.{small, headLength}
 use Rattle.paper.proofs.Passed.{standing}
 use borrow.Author.Needs.{needs}
 use Rattle.record_tests.proofs.head_good.Statement.{statement}
@@ -15,21 +15,14 @@ record-stands-requires : tie.Need-record-stands-requires
 record-stands-requires c κs = search needs
 
 returns : tie.Need-returns
-unfolding headGood
 returns c = rw (sym (c .before .record-stands .ensures) ∙ not-true _ (c .if1 .taken))
 
 -- the head is all there
-long : (c : tie.Else1) → 7 ≤ length (c .before .before .before .args .b .now)
-long c = standing _ 0 1 7 (sym (c .before .record-stands .ensures) ∙ not-false _ (c .if1 .left)) .room
+long : (c : tie.Else1) → headLength small ≤ length (c .before .before .before .args .b .now)
+long c = standing _ 0 (small .headKind) (headLength small) (sym (c .before .record-stands .ensures) ∙ not-false _ (c .if1 .left)) .room
 
-read-four-requires : tie.Need-read-four-requires
-read-four-requires c κs = omega (arith, long c)
-
-read-one-requires : tie.Need-read-one-requires
-read-one-requires c κs = omega (arith, long (c .before))
-
-read-one-requires-2 : tie.Need-read-one-requires-2
-read-one-requires-2 c κs = omega (arith, long (c .before .before))
+read-head-requires : tie.Need-read-head-requires
+read-head-requires c κs = omega (arith, long c)
 
 period-in-range-requires : tie.Need-period-in-range-requires
 period-in-range-requires c κs = search needs
@@ -47,16 +40,19 @@ is-within-requires-2 : tie.Need-is-within-requires-2
 is-within-requires-2 c κs = search needs
 
 returns-2 : tie.Need-returns-2
-unfolding headGood
 returns-2 c =
+    let period-in-range = c .before .before .before .before .period-in-range in
+    let if1 = c .before .before .before .before .before .before .if1 in
+    let head = c .before .before .before .before .before .read-head .ensures in
+    let stands = c .before .before .before .before .before .before .before .record-stands in
     rw (
       c .is-within2 .ensures,
-      c .before .is-within .ensures,
-      c .before .before .period-in-range .ensures,
-      c .before .before .before .before .before .read-four .ensures,
-      c .before .before .before .before .read-one .ensures .0,
-      c .before .before .before .read-one2 .ensures .0,
-      sym (c .before .before .before .before .before .before .before .record-stands .ensures) ∙ not-false _ (c .before .before .before .before .before .before .if1 .left),
+      c .before .before .is-within .ensures,
+      period-in-range .ensures,
+      head .0,
+      head .1,
+      head .2,
+      sym (stands .ensures) ∙ not-false _ (if1 .left),
     )
 
 pub head-good-spec : {M : Type 1} → statement M
@@ -65,9 +61,7 @@ head-good-spec =
     (tie.spec
     record-stands-requires
     returns
-    read-four-requires
-    read-one-requires
-    read-one-requires-2
+    read-head-requires
     period-in-range-requires
     cast-is-within
     is-within-requires

@@ -6,7 +6,7 @@ use native.Mathlib.Omega.{arith}
 use lib.ListN.{length}
 use borrow.Author.Tests.{not-true, not-false}
 use Rattle.paper.proofs.Passed.{standing}
-use Rattle.paper.specs.Bytes.{runGood}
+use Rattle.paper.specs.Limits.{small, runLength}
 use borrow.Author.Needs.{needs}
 use Rattle.record_tests.proofs.run_good.Statement.{statement}
 use Rattle.record_tests.proofs.run_good.Tie as tie
@@ -15,12 +15,11 @@ record-stands-requires : tie.Need-record-stands-requires
 record-stands-requires c κs = search needs
 
 returns : tie.Need-returns
-unfolding runGood
 returns c = rw (sym (c .before .record-stands .ensures) ∙ not-true _ (c .if1 .taken))
 
 -- the record is all there
-long : (c : tie.Else1) → c .before .before .before .args .at + 11 ≤ length (c .before .before .before .args .b .now)
-long c = standing _ _ 3 11 (sym (c .before .record-stands .ensures) ∙ not-false _ (c .if1 .left)) .room
+long : (c : tie.Else1) → c .before .before .before .args .at + runLength small ≤ length (c .before .before .before .args .b .now)
+long c = standing _ _ (small .runKind) (runLength small) (sym (c .before .record-stands .ensures) ∙ not-false _ (c .if1 .left)) .room
 
 read-run-requires : tie.Need-read-run-requires
 read-run-requires c κs = omega (arith, long c)
@@ -34,15 +33,21 @@ cast-stop-2 c = search needs
 add-stop : tie.Need-add-stop
 add-stop c = search needs
 
+cast-result : tie.Need-cast-result
+cast-result c = search needs
+
 returns-2 : tie.Need-returns-2
-unfolding runGood
 returns-2 c =
+    let if1 = c .before .before .before .before .before .before .before .before .before .if1 in
+    let head = c .before .before .before .before .before .before .before .before .before .before .before .before .pre .1 in
+    let read-run = c .before .before .before .before .before .before .before .before .read-run in
+    let stands = c .before .before .before .before .before .before .before .before .before .before .record-stands in
     rw (
-      sym (c .before .before .before .before .before .before .before .before .before .pre .1),
-      sym (c .before .before .before .before .before .before .before .before .before .pre .2),
-      sym (c .before .before .before .before .before .before .before .before .before .pre .3),
-      sym (c .before .before .before .before .before .read-run .ensures),
-      sym (c .before .before .before .before .before .before .before .record-stands .ensures) ∙ not-false _ (c .before .before .before .before .before .before .if1 .left),
+      sym (head .0),
+      sym (head .1),
+      sym (head .2),
+      sym (read-run .ensures),
+      sym (stands .ensures) ∙ not-false _ (if1 .left),
     )
 
 pub run-good-spec : {M : Type 1} → statement M
@@ -55,4 +60,5 @@ run-good-spec =
     cast-stop
     cast-stop-2
     add-stop
+    cast-result
     returns-2)

@@ -20,36 +20,24 @@ abbrev μ-loop : tie.MeasureT-loop
 loop-holds : tie.Need-loop-holds Inv-loop μ-loop
 loop-holds c = (search needs, refl, unwritten _ _)
 
-shared-slice-read-out : tie.Need-shared-slice-read-out Inv-loop μ-loop
-shared-slice-read-out c = search needs
-
-slice-write-out : tie.Need-slice-write-out Inv-loop μ-loop
-slice-write-out c = search needs
-
-add-i : tie.Need-add-i Inv-loop μ-loop
-add-i c = search needs
-
-loop-less : tie.Need-loop-less Inv-loop μ-loop
-loop-less c = search needs
-
 loop-again : tie.Need-loop-again Inv-loop μ-loop
 loop-again c =
-    let bytes = c .before .before .before .args .bytes .now in
-    let i = c .before .before .loop .i in
+    let loop = c .before .before .loop in
+    let args = c .before .before .before .args in
+    let bytes = args .bytes .now in
+    let i = loop .i in
     let here : drop i bytes ≡ getD bytes i 0 ∷ drop (i + 1) bytes = rw (add-one, drop-cons bytes i 0 (search needs)) in (
       search needs,
       simp length-set (search needs),
-      stored bytes (c .before .before .before .args .out .now) (drop (i + 1) bytes) _ (getD bytes i 0) i (next here (c .before .before .loop .inv .2)) (search needs),
+      stored bytes (args .out .now) (drop (i + 1) bytes) _ (getD bytes i 0) i (next here (loop .inv .2)) (search needs),
     )
-
-same-length : tie.Need-same-length Inv-loop μ-loop
-same-length c = search needs
 
 returns : tie.Need-returns Inv-loop μ-loop
 returns c =
-    let bytes = c .before .before .args .bytes .now in
-    let none : drop (c .before .loop .i) bytes ≡ [] = drop-of-length-le bytes {i = c .before .loop .i} (search needs) in
-    done bytes (c .before .before .args .out .now) (c .before .loop .out) (c .before .loop .i) (next none (c .before .loop .inv .2))
+    let loop = c .before .loop in
+    let args = c .before .before .args in
+    let none : drop (loop .i) (args .bytes .now) ≡ [] = drop-of-length-le (args .bytes .now) {i = loop .i} (search needs) in
+    done (args .bytes .now) (args .out .now) (loop .out) (loop .i) (next none (loop .inv .2))
 
 pub put-bytes-spec : {M : Type 1} → statement M
 put-bytes-spec =
@@ -58,10 +46,10 @@ put-bytes-spec =
     Inv-loop
     μ-loop
     loop-holds
-    shared-slice-read-out
-    slice-write-out
-    add-i
-    loop-less
+    (λ c. search needs)
+    (λ c. search needs)
+    (λ c. search needs)
+    (λ c. search needs)
     loop-again
-    same-length
+    (λ c. search needs)
     returns)

@@ -1,7 +1,8 @@
 -- `is_whole` tests what `whole` says, on the product that `scaled` gives.
 -- Assumes nothing.
+use mathlib.Core.Path.{sym}
 use borrow.Author.Needs.{needs}
-use Rattle.paper.specs.Words.{whole}
+use Rattle.slices.proofs.Shares.{whole-is}
 use Rattle.slices.proofs.is_whole.Statement.{statement}
 use Rattle.slices.proofs.is_whole.Tie as tie
 
@@ -15,8 +16,7 @@ rem-result : tie.Need-rem-result
 rem-result c = search needs
 
 returns : tie.Need-returns
-unfolding whole
-returns c = rw (c .before .scaled .ensures .0)
+returns c = rw (c .before .scaled .ensures .0) (sym (whole-is _ _))
 
 pub is-whole-spec : {M : Type 1} → statement M
 is-whole-spec = tie.close (tie.spec scaled-requires cast-result rem-result returns)

@@ -4,7 +4,8 @@ use Prim.Native.Nat.{_-_}
 use mathlib.Core.Bool.{not}
 use borrow.Author.Needs.{needs}
 use Rattle.laws.proofs.Search.{Seeking, seek-none, seek-more, seek-hit, seek-miss}
-use Rattle.paper.specs.Bytes.{small, dutyGood, badDuty, dutyPlace}
+use Rattle.paper.specs.Limits.{small}
+use Rattle.paper.specs.Bytes.{dutyGood, badDuty, dutyPlace}
 use Rattle.table_form.proofs.bad_duty.Statement.{statement}
 use Rattle.table_form.proofs.bad_duty.Tie as tie
 
@@ -24,9 +25,9 @@ duty-good-requires : tie.Need-duty-good-requires Inv-loop μ-loop
 duty-good-requires c κs = search needs
 
 returns : tie.Need-returns Inv-loop μ-loop
-unfolding badDuty
 returns c =
-    seek-hit (c .before .before .before .before .loop .inv) (search needs) (rw (
+    let loop = c .before .before .before .before .loop in
+    seek-hit (loop .inv) (search needs) (rw (
       ← c .before .before .duty-place .ensures,
       ← c .before .duty-good .ensures,
     ) (c .if1 .taken))
@@ -39,13 +40,13 @@ loop-less c = search needs
 
 loop-again : tie.Need-loop-again Inv-loop μ-loop
 loop-again c =
-    seek-more (c .before .before .before .before .loop .inv) (search needs) (rw (
+    let loop = c .before .before .before .before .loop in
+    seek-more (loop .inv) (search needs) (rw (
       ← c .before .before .duty-place .ensures,
       ← c .before .duty-good .ensures,
     ) (c .if1 .left))
 
 returns-2 : tie.Need-returns-2 Inv-loop μ-loop
-unfolding badDuty
 returns-2 c = seek-miss (c .before .loop .inv) (search needs)
 
 pub bad-duty-spec : {M : Type 1} → statement M

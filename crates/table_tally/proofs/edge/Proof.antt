@@ -12,7 +12,12 @@ add-result : tie.Need-add-result
 add-result c = search needs
 
 returns : tie.Need-returns
-returns c = rw (covers-own (c .before .before .before .before .args .x) (c .before .before .before .before .args .unit), c .before .if1 .taken)
+returns c =
+    let start = c .before .before .before .before in
+    rw (
+      covers-own (start .args .x) (start .args .unit),
+      c .before .if1 .taken,
+    )
 
 returns-2 : tie.Need-returns-2
 returns-2 c = rw (covers-own (c .before .before .before .args .x) (c .before .before .before .args .unit), c .if1 .left)

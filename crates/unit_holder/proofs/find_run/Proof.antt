@@ -32,7 +32,11 @@ loop-less : tie.Need-loop-less Inv-loop μ-loop
 loop-less c = search needs
 
 loop-again : tie.Need-loop-again Inv-loop μ-loop
-loop-again c = (search needs, seek-more (c .before .before .before .loop .inv .1) (search needs) (sym (c .before .covers-at .ensures) ∙ c .if2 .left))
+loop-again c = (
+  search needs,
+  seek-more (c .before .before .before .loop .inv .1) (search needs)
+      (sym (c .before .covers-at .ensures) ∙ c .if2 .left),
+)
 
 returns : tie.Need-returns Inv-loop μ-loop
 returns c = omega (arith, seek-miss (c .before .loop .inv .1) (search needs))

@@ -23,13 +23,16 @@ returns : tie.Need-returns
 returns c =
     let start = c .before .before .before .before .before in
     let find-run = c .before .before .before .find-run in
-    ap (λ (x : Run). By (x .duty)) (c .run-of .ensures .0) ∙ sym (held-found (tableOf (start .args .b .now) (start .args .rd) .runs) _ _ (start .args .rd .runs) (find-run .result) (sym (table-runs _ (start .args .rd))) (find-run .ensures) (search needs))
+    ap (λ (x : Run). By (x .duty)) (c .run-of .ensures .0) ∙ sym
+    (held-found (tableOf (start .args .b .now) (start .args .rd) .runs) _ _ (start .args .rd .runs) (find-run .result)
+    (sym (table-runs _ (start .args .rd))) (find-run .ensures) (search needs))
 
 returns-2 : tie.Need-returns-2
 returns-2 c =
     let start = c .before .before .before .before in
     let find-run = c .before .before .find-run in
-    sym (held-not-found (tableOf (start .args .b .now) (start .args .rd) .runs) _ _ (start .args .rd .runs) (find-run .result) (sym (table-runs _ (start .args .rd))) (find-run .ensures) (search needs))
+    sym (held-not-found (tableOf (start .args .b .now) (start .args .rd) .runs) _ _ (start .args .rd .runs) (find-run .result)
+    (sym (table-runs _ (start .args .rd))) (find-run .ensures) (search needs))
 
 pub held-spec : {M : Type 1} → statement M
 held-spec = tie.close (tie.spec find-run-requires cast-if1 run-of-requires returns returns-2)
