@@ -1,38 +1,55 @@
--- "The question, the dispatcher and the count take table bytes and judge them first": what the judge's answer makes of whatever is asked next.
--- An accepted reading gives the table in the bytes, ready to be asked; a fault is the refusal.
+-- "The question, the dispatcher and the count take table bytes and judge them first": what a ruling makes of whatever is asked next. A
+-- table that was accepted is asked itself, or by its links and the number of its engines; a fault is the refusal.
 -- Assumes nothing.
 use Prim.Native.Nat.{ℕ}
-use mathlib.Core.Path.{_≡_}
+use mathlib.Core.Path.{_≡_, sym, ap, _∙_}
+use mathlib.Core.Bool.{Bool}
 use mathlib.Core.List.{List}
 use Rattle.paper.specs.declared.Fault.{Fault}
 use Rattle.paper.specs.declared.Refusal.{Refusal}
 use Rattle.paper.specs.declared.Reading.{Reading}
-use Rattle.paper.specs.declared.Judged.{Judged}
 use Rattle.paper.specs.declared.Judged.the-variants.{Accepted, Bad}
 use Rattle.paper.specs.Words.{Table}
-use Rattle.paper.specs.Bytes.{small}
-use Rattle.paper.specs.Statements.{Ranged}
-use Rattle.paper.specs.Outcome.{Outcome, andThen, refusedAs, refusalOf, judgedAs}
-use Rattle.paper.specs.Rules.{accepted, judged}
-use Rattle.table_laws.proofs.Accepted.{accepted-iff, ranged-long}
+use Rattle.paper.specs.Rotation.{link}
+use Rattle.paper.specs.Outcome.{Outcome, answer, andThen, refusedAs, refusalOf, judgedAs}
+use Rattle.paper.specs.Rules.{accepted, readingOf}
+use Rattle.paper.specs.Answers.{byLinks}
+use Rattle.paper.proofs.Outcomes.{then-refused}
+use Rattle.table_laws.proofs.Accepted.{accepted-iff, ranged-long, read-accepted}
 use Rattle.record_read.specs.Formed.{tableOf}
-use Rattle.record_read.proofs.Table.{table-ranged}
-use Rattle.judge.specs.AcceptedAs.{AcceptedAs}
-use Rattle.judge.proofs.Accepted.{accepted-as, accepted-table, refused-as}
-use Rattle.judge.specs.Ready.{Ready}
+use Rattle.record_read.proofs.Table.{table-engines, table-ranged}
+use Rattle.row_edges.specs.Links.{linkOf}
+use Rattle.table_tally.specs.Ready.{Ready}
+use Rattle.table_tally.proofs.Linked.{ready-links}
+use Rattle.judge.specs.declared.Ruling.{Ruling}
+use Rattle.judge.specs.Ruled.{Ruled}
 
--- a reading that the judge accepts: its table is ready to be asked
-pub ready : (b : List ℕ) {r : Judged} {rd : Reading} → judgedAs r ≡ judged b → r ≡ Accepted rd → Ready b rd
-ready b {r} {rd} e q =
-    let A : AcceptedAs b rd = accepted-as b r rd e q in
-    let G : Ranged small (tableOf b rd) = table-ranged b rd (A .formed) in
-    record { formed = A .formed; ranged = G; meets = accepted-iff (tableOf b rd) (ranged-long G) .0 (A .met) }
+-- a table that is ready to be asked is accepted
+ready-accepted : {b : List ℕ} {rd : Reading} {edges : List ℕ} → Ready b rd edges → accepted b ≡ answer (tableOf b rd)
+ready-accepted {b} {rd} G =
+    let t = tableOf b rd in
+    read-accepted b t (G .formed .parsed) (accepted-iff t (ranged-long (table-ranged b rd (G .formed))) .1 (G .meets))
 
--- .. and whatever is asked of the bytes is asked of that table
-pub asked-accepted : {B : Type 0} (b : List ℕ) {r : Judged} {rd : Reading} (f : Table → Outcome B) → judgedAs r ≡ judged b → r ≡ Accepted rd → f (tableOf b rd) ≡ andThen (accepted b) f
-asked-accepted b {r} {rd} f e q = rw (accepted-table b rd (accepted-as b r rd e q))
+module _ {b : List ℕ} {r : Ruling} (R : Ruled b r) where
+  pub ready-read : {rd : Reading} → r .judged ≡ Accepted rd → Ready b rd (r .edges)
+  ready-read {rd} q = R .ready rd q
 
--- a fault: whatever is asked is refused with its number and place
-pub asked-refused : {B : Type 0} (b : List ℕ) {r : Judged} {x : Fault} {why : Refusal} (f : Table → Outcome B) → judgedAs r ≡ judged b → r ≡ Bad x
-    → (why .number ≡ refusalOf x .number) × (why .place ≡ refusalOf x .place) → _≡_ {A = Outcome B} (refusedAs why) (andThen (accepted b) f)
-asked-refused b {r} {x} f e q m = rw (refused-as b r x e q, m .0, m .1)
+  -- whatever is asked of the bytes is asked of the table, ..
+  pub asked-accepted : {A : Type 0} {rd : Reading} (f : Table → Outcome A) {o : Outcome A} → r .judged ≡ Accepted rd → o ≡ f (tableOf b rd)
+      → o ≡ andThen (accepted b) f
+  asked-accepted {rd = rd} f q e = e ∙ ap (λ a. andThen a f) (sym (ready-accepted (R .ready rd q)))
+
+  -- .. or by its links and the number of its engines
+  pub asked-links : {A : Type 0} {rd : Reading} (f : (ℕ → Bool) → ℕ → Outcome A) → r .judged ≡ Accepted rd
+      → f (linkOf (r .edges)) (rd .engines) ≡ byLinks b f
+  asked-links {rd = rd} f q =
+      let G = R .ready rd q in
+      asked-accepted (λ t. f (link t) (t .engines)) q
+      (ap (λ c. f c (rd .engines)) (ready-links G) ∙ ap (f (link (tableOf b rd))) (sym (table-engines b rd (G .formed))))
+
+  -- a fault: whatever is asked is refused with its number and place
+  pub asked-refused : {A : Type 0} {x : Fault} {why : Refusal} (f : Table → Outcome A) → r .judged ≡ Bad x
+      → (why .number ≡ refusalOf x .number) × (why .place ≡ refusalOf x .place)
+      → _≡_ {A = Outcome A} (refusedAs why) (andThen (accepted b) f)
+  asked-refused {x = x} f q m =
+      rw (then-refused (accepted b) readingOf _ _ (sym (R .told) ∙ ap judgedAs q), m .0, m .1)

@@ -1,3 +1,3 @@
 pub mod Accepted
 pub mod Asked
-mod OneForm
+mod Ruled

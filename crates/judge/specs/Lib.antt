@@ -1,3 +1,1 @@
-pub mod AcceptedAs
-pub mod Ready
 pub mod Ruled

@@ -1,9 +1,10 @@
 // The judge of tables: the form of the bytes, then the rules. One pass over the runs serves the judge and those who ask on.
 ghost use mathlib.Core.Path.{_≡_};
-ghost use Rattle.paper.specs.Outcome.{refused, answer, andThen, judgedAs, refusalOf};
-ghost use Rattle.paper.specs.Rules.{judged, judgeTable, readingOf};
+ghost use Rattle.paper.specs.declared.Judged.the-variants.{Bad};
+ghost use Rattle.paper.specs.Outcome.{answer, andThen, judgedAs, refusalOf};
+ghost use Rattle.paper.specs.Rules.{judged, judgeDuties, judgeRuns, readingOf};
 ghost use Rattle.record_read.specs.Formed.{Formed, tableOf};
-ghost use Rattle.table_tally.specs.Tally.{unitsIn};
+ghost use Rattle.table_tally.specs.Tally.{edgesOf};
 ghost use Rattle.judge.specs.Ruled.{Ruled};
 use judge_lowest::bad_slice;
 use judge_lowest::block_length_of;
@@ -12,23 +13,21 @@ use paper::Fault;
 use paper::Judged;
 use paper::Reading;
 use paper::Refusal;
+use paper::limits::EDGES;
 use table_form::Form;
 use table_form::form_of;
 use table_tally::tally_of;
 
-// What judging leaves to those who ask on: the judge's answer, and what holds the first and the last unit of each row of a
-// table in good form.
+// What judging leaves to those who ask on: the judge's answer, and the edges of an accepted table's rows.
 pub struct Ruling {
     pub judged: Judged,
-    pub starts: [u32; 33],
-    pub ends: [u32; 33],
+    pub edges: [u32; EDGES],
 }
 
-// Rules 11 to 17 of bytes in good form, whose duties have these units: the lowest fault, or the reading.
-fn judge_rules(b: &[u8], rd: Reading, units: &[u32; 64]) -> Judged
+// Rules 11 and 12, of the duties of bytes in good form: the lower fault, or the reading.
+fn judge_duties(b: &[u8], rd: Reading) -> Judged
     requires { ⌜ Formed (now b) rd ⌝ }
-    requires { ⌜ now units ≡ unitsIn (tableOf (now b) rd) ⌝ }
-    ensures { λ r. ⌜ judgedAs r ≡ andThen (judgeTable (tableOf (now (b .entry)) rd)) (λ t. answer (readingOf t)) ⌝ }
+    ensures { λ r. ⌜ judgedAs r ≡ andThen (judgeDuties (tableOf (now (b .entry)) rd)) (λ t. answer (readingOf t)) ⌝ }
 {
     if rd.block_length != block_length_of(b, rd) {
         return Judged::Bad(Fault::BlockLength);
@@ -37,37 +36,40 @@ fn judge_rules(b: &[u8], rd: Reading, units: &[u32; 64]) -> Judged
     if d < rd.duties as usize {
         return Judged::Bad(Fault::Slice(d));
     }
-    judge_runs(b, rd, units)
+    Judged::Accepted(rd)
 }
 
-// The rules' answer to bytes in good form, with the edges of the rows that the tally has found.
+// A fault that needs no look at the runs. There are no edges to hand on.
+fn rule_on_fault(fault: Fault) -> Ruling
+    ensures { λ r. ⌜ r .judged ≡ Bad fault ⌝ }
+{
+    let judged = Judged::Bad(fault);
+    let edges = [0u32; EDGES];
+    Ruling { judged, edges }
+}
+
+// The rules of the runs, with the edges that the tally has found.
+fn rule_on_runs(b: &[u8], rd: Reading) -> Ruling
+    requires { ⌜ Formed (now b) rd ⌝ }
+    ensures { λ r. ⌜ judgedAs (r .judged) ≡ andThen (judgeRuns (tableOf (now (b .entry)) rd)) (λ t. answer (readingOf t)) ⌝ }
+    ensures { λ r. ⌜ r .edges ≡ edgesOf (tableOf (now (b .entry)) rd) ⌝ }
+{
+    let tally = tally_of(b, rd);
+    let units = tally.units;
+    let edges = tally.edges;
+    let judged = judge_runs(b, rd, &units);
+    Ruling { judged, edges }
+}
+
+// The rules' answer to bytes in good form: first those of the duties, which look at no run, then those of the runs.
 fn rule_on_form(b: &[u8], rd: Reading) -> Ruling
     requires { ⌜ Formed (now b) rd ⌝ }
     ensures { λ r. ⌜ Ruled (now (b .entry)) r ⌝ }
 {
-    let tally = tally_of(b, rd);
-    let units = tally.units;
-    let starts = tally.starts;
-    let ends = tally.ends;
-    let judged = judge_rules(b, rd, &units);
-    Ruling {
-        judged,
-        starts,
-        ends,
-    }
-}
-
-// Bytes that are in no good form have no rows.
-fn rule_on_fault(at: usize) -> Ruling
-    ensures { λ r. ⌜ judgedAs (r .judged) ≡ refused 10 at ⌝ }
-{
-    let judged = Judged::Bad(Fault::Form(at));
-    let starts = [0u32; 33];
-    let ends = [0u32; 33];
-    Ruling {
-        judged,
-        starts,
-        ends,
+    let duties = judge_duties(b, rd);
+    match duties {
+        Judged::Bad(fault) => rule_on_fault(fault),
+        Judged::Accepted(_) => rule_on_runs(b, rd),
     }
 }
 
@@ -77,7 +79,7 @@ pub fn rule_on(b: &[u8]) -> Ruling
 {
     match form_of(b) {
         Form::Good(rd) => rule_on_form(b, rd),
-        Form::Fault(at) => rule_on_fault(at),
+        Form::Fault(at) => rule_on_fault(Fault::Form(at)),
     }
 }
 

@@ -20,7 +20,8 @@ unfolding blockLengthOf
 periods-start ds = gcd-start (gcdOf (map (λ (x : Duty). x .period) ds))
 
 -- one duty further
-pub periods-further : (g d : ℕ) (ds : List Duty) → d < length ds → gcd (gcd g (dutyAt ds d .period)) (gcdOf (periodsFrom (d + 1) ds)) ≡ gcd g (gcdOf (periodsFrom d ds))
+pub periods-further : (g d : ℕ) (ds : List Duty) → d < length ds → gcd (gcd g (dutyAt ds d .period)) (gcdOf (periodsFrom (d + 1) ds))
+    ≡ gcd g (gcdOf (periodsFrom d ds))
 periods-further g d ds h =
     let p : Duty → ℕ = λ x. x .period in
     rw (sym (List·getD-map p ds d (duty 0 0))) (gcd-further g d (map p ds) (rw length-map h))

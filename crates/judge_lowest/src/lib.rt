@@ -14,6 +14,7 @@ use judge_pairs::Clash;
 use judge_pairs::do_clash;
 use judge_pairs::is_before;
 use paper::Reading;
+use paper::limits::MOST_DUTIES;
 use record_read::duty_of;
 use record_read::run_of;
 use slices::gcd_of;
@@ -114,7 +115,7 @@ pub fn lowest_clash(b: &[u8], rd: Reading, kind: Clash) -> usize
 }
 
 // Whether the runs of duty i do not add up to its slice, by the units of each duty.
-fn is_wrong_sum(b: &[u8], rd: Reading, units: &[u32; 64], i: usize) -> bool
+fn is_wrong_sum(b: &[u8], rd: Reading, units: &[u32; MOST_DUTIES], i: usize) -> bool
     requires { ⌜ Formed (now b) rd ⌝ }
     requires { ⌜ (now units ≡ unitsIn (tableOf (now b) rd)) × (i < rd .duties) ⌝ }
     ensures { λ r. ⌜ r ≡ wrongSum (tableOf (now (b .entry)) rd) i ⌝ }
@@ -123,7 +124,7 @@ fn is_wrong_sum(b: &[u8], rd: Reading, units: &[u32; 64], i: usize) -> bool
 }
 
 // The lowest duty whose runs do not add up to its slice, or how many duties there are.
-pub fn bad_sum(b: &[u8], rd: Reading, units: &[u32; 64]) -> usize
+pub fn bad_sum(b: &[u8], rd: Reading, units: &[u32; MOST_DUTIES]) -> usize
     requires { ⌜ Formed (now b) rd ⌝ }
     requires { ⌜ now units ≡ unitsIn (tableOf (now b) rd) ⌝ }
     ensures { λ r. ⌜ r ≡ badSum (tableOf (now (b .entry)) rd) ⌝ }

@@ -2,7 +2,7 @@
 ghost use mathlib.Core.Path.{_≡_};
 ghost use Prim.Native.Nat.{_≤_};
 ghost use Rattle.paper.specs.Words.{stop};
-ghost use Rattle.paper.specs.Bytes.{mostTicks};
+ghost use Rattle.paper.specs.Limits.{mostTicks};
 ghost use Rattle.paper.specs.Rules.{before, meet};
 ghost use Rattle.judge_pairs.specs.Clash.{clashOf};
 use paper::Run;

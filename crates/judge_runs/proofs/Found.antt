@@ -1,5 +1,5 @@
--- A rule with n duties or runs, among which a search has answered r for its place: at n it has found nothing and the next rule is looked at,
--- below n the rule refuses with the place found. A refusal of the rules is the judge's.
+-- A rule with n duties or runs, among which a search has answered r for its place: at n it has found nothing and the next rule is looked
+-- at, below n the rule refuses with the place found. A refusal of the rules is the judge's.
 -- Assumes nothing.
 use Prim.Native.Nat.{ℕ, _≤_, _<_}
 use mathlib.Core.Path.{_≡_}

@@ -11,9 +11,10 @@ use judge_pairs::Clash;
 use paper::Fault;
 use paper::Judged;
 use paper::Reading;
+use paper::limits::MOST_DUTIES;
 
 // 13 to 17, of the runs of bytes in good form, whose duties have these units: the lowest fault, or the reading.
-pub fn judge_runs(b: &[u8], rd: Reading, units: &[u32; 64]) -> Judged
+pub fn judge_runs(b: &[u8], rd: Reading, units: &[u32; MOST_DUTIES]) -> Judged
     requires { ⌜ Formed (now b) rd ⌝ }
     requires { ⌜ now units ≡ unitsIn (tableOf (now b) rd) ⌝ }
     ensures { λ r. ⌜ judgedAs r ≡ andThen (judgeRuns (tableOf (now (b .entry)) rd)) (λ t. answer (readingOf t)) ⌝ }

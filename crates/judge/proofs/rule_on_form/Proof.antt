@@ -1,28 +1,46 @@
--- `rule_on_form`: after a good form the rules decide, and the tally is that of the one table in the bytes.
+-- `rule_on_form`: the rules of the duties decide, and where they are met those of the runs; the tally is that of the one table in the
+-- bytes.
 -- Assumes nothing.
-use mathlib.Core.Path.{sym, ap, _∙_}
+use mathlib.Core.Path.{_≡_, sym, ap, _∙_}
+use Rattle.paper.specs.Outcome.{answer, judgedAs}
+use Rattle.table_tally.specs.Tally.{edgesOf}
+use Rattle.judge.proofs.Ruled.{fault-ruled}
+use Rattle.judge.proofs.Accepted.{duties-refused, runs-decide, table-one, accepted-as}
 use borrow.Author.Needs.{needs}
-use Rattle.table_tally.specs.Tally.{startsOf, endsOf}
-use Rattle.judge.proofs.Accepted.{rules-decide}
-use Rattle.judge.proofs.OneForm.{table-one}
 use Rattle.judge.proofs.rule_on_form.Statement.{statement}
 use Rattle.judge.proofs.rule_on_form.Tie as tie
 
-tally-of-requires : tie.Need-tally-of-requires
-tally-of-requires c κs = search needs
-
-judge-rules-requires : tie.Need-judge-rules-requires
-judge-rules-requires c κs = search needs
-
 returns : tie.Need-returns
 returns c =
-    let start = c .before .before .before .before .before .before .before in
-    let tally = c .before .before .before .before .before .tally-of in
+    let judge-duties = c .before .before .before .before .judge-duties in
+    let start = c .before .before .before .before .before .before in
+    let bad = sym (judge-duties .ensures) ∙ ap judgedAs (c .before .before .duties .given .1) in
+    fault-ruled (c .rule-on-fault .ensures) (duties-refused (start .pre) bad)
+
+returns-2 : tie.Need-returns-2
+returns-2 c =
+    let start = c .before .before .before .before .before in
+    let met = sym (c .before .before .before .judge-duties .ensures) ∙ ap judgedAs (c .before .enum-told .given .1) in
+    let told = c .rule-on-runs .ensures .0 ∙ sym (runs-decide (start .pre) met) in
     record {
-      told = c .judge-rules .ensures ∙ sym (rules-decide _ _ (start .pre));
-      starts-are = λ rd F. tally .ensures .1 ∙ ap startsOf (table-one _ (start .args .rd) rd (start .pre) F);
-      ends-are = λ rd F. tally .ensures .2 ∙ ap endsOf (table-one _ (start .args .rd) rd (start .pre) F);
+      told = told;
+      ready = λ rd q.
+          let good = accepted-as _ rd (sym told ∙ ap judgedAs q) in
+          record {
+            formed = good .0;
+            meets = good .1;
+            edges-are = c .rule-on-runs .ensures .1 ∙ ap edgesOf (table-one _ (start .args .rd) rd (start .pre) (good .0));
+          };
     }
 
 pub rule-on-form-spec : {M : Type 1} → statement M
-rule-on-form-spec = tie.close (tie.spec tally-of-requires judge-rules-requires returns)
+rule-on-form-spec =
+    tie.close
+    (tie.spec
+    (λ c κs. search needs)
+    (λ c. search needs)
+    (λ c κs. search needs)
+    (λ c. search needs)
+    (λ c κs. search needs)
+    returns
+    returns-2)

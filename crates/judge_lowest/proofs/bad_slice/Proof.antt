@@ -18,45 +18,33 @@ Inv-loop b rd n t d₀ d = Seeking (λ k. not (whole (rd .«block_length») (dut
 abbrev μ-loop : tie.MeasureT-loop
 μ-loop b rd n t d₀ d = rd .duties - d
 
-cast-n : tie.Need-cast-n Inv-loop μ-loop
-cast-n c = search needs
-
 loop-holds : tie.Need-loop-holds Inv-loop μ-loop
 loop-holds c = seek-none _ _
 
-duty-of-requires : tie.Need-duty-of-requires Inv-loop μ-loop
-duty-of-requires c κs = search needs
-
-is-whole-requires : tie.Need-is-whole-requires Inv-loop μ-loop
-is-whole-requires c κs = search needs
-
 returns : tie.Need-returns Inv-loop μ-loop
-unfolding badSlice
 returns c =
+    let start = c .before .before .before .before .before .before .before in
+    let loop = c .before .before .before .before .loop in
     rw (
-      table-duties _ (c .before .before .before .before .before .before .before .args .rd),
-      table-ticks _ _ (c .before .before .before .before .before .before .before .pre),
-    ) (seek-hit (c .before .before .before .before .loop .inv) (search needs) (rw (← c .before .before .duty-of .ensures .0, ← c .before .is-whole .ensures) (c .if1 .taken)))
-
-add-d : tie.Need-add-d Inv-loop μ-loop
-add-d c = search needs
-
-loop-less : tie.Need-loop-less Inv-loop μ-loop
-loop-less c = search needs
+      table-duties _ (start .args .rd),
+      table-ticks _ _ (start .pre),
+    ) (seek-hit (loop .inv) (search needs)
+    (rw (← c .before .before .duty-of .ensures .0, ← c .before .is-whole .ensures) (c .if1 .taken)))
 
 loop-again : tie.Need-loop-again Inv-loop μ-loop
 loop-again c =
-    seek-more (c .before .before .before .before .loop .inv) (search needs) (rw (
+    let loop = c .before .before .before .before .loop in
+    seek-more (loop .inv) (search needs) (rw (
       ← c .before .before .duty-of .ensures .0,
       ← c .before .is-whole .ensures,
     ) (c .if1 .left))
 
 returns-2 : tie.Need-returns-2 Inv-loop μ-loop
-unfolding badSlice
 returns-2 c =
+    let start = c .before .before .before .before in
     rw (
-      table-duties _ (c .before .before .before .before .args .rd),
-      table-ticks _ _ (c .before .before .before .before .pre),
+      table-duties _ (start .args .rd),
+      table-ticks _ _ (start .pre),
     ) (seek-miss (c .before .loop .inv) (search needs))
 
 pub bad-slice-spec : {M : Type 1} → statement M
@@ -65,12 +53,12 @@ bad-slice-spec =
     (tie.spec
     Inv-loop
     μ-loop
-    cast-n
+    (λ c. search needs)
     loop-holds
-    duty-of-requires
-    is-whole-requires
+    (λ c κs. search needs)
+    (λ c κs. search needs)
     returns
-    add-d
-    loop-less
+    (λ c. search needs)
+    (λ c. search needs)
     loop-again
     returns-2)

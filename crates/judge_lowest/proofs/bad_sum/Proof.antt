@@ -17,33 +17,22 @@ Inv-loop b rd units n i₀ i = Seeking (wrongSum (tableOf b rd)) (rd .duties) i
 abbrev μ-loop : tie.MeasureT-loop
 μ-loop b rd units n i₀ i = rd .duties - i
 
-cast-n : tie.Need-cast-n Inv-loop μ-loop
-cast-n c = search needs
-
 loop-holds : tie.Need-loop-holds Inv-loop μ-loop
 loop-holds c = seek-none _ _
 
-is-wrong-sum-requires : tie.Need-is-wrong-sum-requires Inv-loop μ-loop
-is-wrong-sum-requires c κs = search needs
-
 returns : tie.Need-returns Inv-loop μ-loop
-unfolding badSum
 returns c =
-    rw (table-duties _ (c .before .before .before .before .before .before .args .rd))
+    let start = c .before .before .before .before .before .before in
+    rw (table-duties _ (start .args .rd))
     (seek-hit (c .before .before .before .loop .inv) (search needs) (sym (c .before .is-wrong-sum .ensures) ∙ c .if1 .taken))
-
-add-i : tie.Need-add-i Inv-loop μ-loop
-add-i c = search needs
-
-loop-less : tie.Need-loop-less Inv-loop μ-loop
-loop-less c = search needs
 
 loop-again : tie.Need-loop-again Inv-loop μ-loop
 loop-again c = seek-more (c .before .before .before .loop .inv) (search needs) (sym (c .before .is-wrong-sum .ensures) ∙ c .if1 .left)
 
 returns-2 : tie.Need-returns-2 Inv-loop μ-loop
-unfolding badSum
-returns-2 c = rw (table-duties _ (c .before .before .before .before .args .rd)) (seek-miss (c .before .loop .inv) (search needs))
+returns-2 c =
+    let start = c .before .before .before .before in
+    rw (table-duties _ (start .args .rd)) (seek-miss (c .before .loop .inv) (search needs))
 
 pub bad-sum-spec : {M : Type 1} → statement M
 bad-sum-spec =
@@ -51,11 +40,11 @@ bad-sum-spec =
     (tie.spec
     Inv-loop
     μ-loop
-    cast-n
+    (λ c. search needs)
     loop-holds
-    is-wrong-sum-requires
+    (λ c κs. search needs)
     returns
-    add-i
-    loop-less
+    (λ c. search needs)
+    (λ c. search needs)
     loop-again
     returns-2)

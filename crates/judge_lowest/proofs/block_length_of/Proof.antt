@@ -18,23 +18,8 @@ Inv-loop b rd n g₀ d₀ g d = (d ≤ rd .duties) × (gcd g (gcdOf (periodsFrom
 abbrev μ-loop : tie.MeasureT-loop
 μ-loop b rd n g₀ d₀ g d = rd .duties - d
 
-cast-n : tie.Need-cast-n Inv-loop μ-loop
-cast-n c = search needs
-
 loop-holds : tie.Need-loop-holds Inv-loop μ-loop
 loop-holds c = (search needs, periods-start _)
-
-duty-of-requires : tie.Need-duty-of-requires Inv-loop μ-loop
-duty-of-requires c κs = search needs
-
-gcd-of-requires : tie.Need-gcd-of-requires Inv-loop μ-loop
-gcd-of-requires c κs = search needs
-
-add-d : tie.Need-add-d Inv-loop μ-loop
-add-d c = search needs
-
-loop-less : tie.Need-loop-less Inv-loop μ-loop
-loop-less c = search needs
 
 loop-again : tie.Need-loop-again Inv-loop μ-loop
 loop-again c =
@@ -42,7 +27,8 @@ loop-again c =
     let rd = c .before .before .before .before .before .before .args .rd in (
       search needs,
       rw (c .gcd-of .ensures, c .before .duty-of .ensures .0)
-          (periods-further (c .before .before .before .loop .g) (c .before .before .before .loop .d) (tableOf b rd .duties) (omega (arith, table-duties b rd)) ∙ c .before .before .before .loop .inv .1),
+          (periods-further (c .before .before .before .loop .g) (c .before .before .before .loop .d) (tableOf b rd .duties)
+          (omega (arith, table-duties b rd)) ∙ c .before .before .before .loop .inv .1),
     )
 
 returns : tie.Need-returns Inv-loop μ-loop
@@ -58,11 +44,11 @@ block-length-of-spec =
     (tie.spec
     Inv-loop
     μ-loop
-    cast-n
+    (λ c. search needs)
     loop-holds
-    duty-of-requires
-    gcd-of-requires
-    add-d
-    loop-less
+    (λ c κs. search needs)
+    (λ c κs. search needs)
+    (λ c. search needs)
+    (λ c. search needs)
     loop-again
     returns)

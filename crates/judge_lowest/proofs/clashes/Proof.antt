@@ -16,35 +16,24 @@ Inv-loop b rd kind k y j₀ j = Seeking (λ i. clashOf kind (runAt (tableOf b rd
 abbrev μ-loop : tie.MeasureT-loop
 μ-loop b rd kind k y j₀ j = k - j
 
-run-of-requires : tie.Need-run-of-requires Inv-loop μ-loop
-run-of-requires c κs = search needs
-
 loop-holds : tie.Need-loop-holds Inv-loop μ-loop
 loop-holds c = seek-none _ _
 
-run-of-requires-2 : tie.Need-run-of-requires-2 Inv-loop μ-loop
-run-of-requires-2 c κs = search needs
-
-do-clash-requires : tie.Need-do-clash-requires Inv-loop μ-loop
-do-clash-requires c κs = search needs
-
 returns : tie.Need-returns Inv-loop μ-loop
 returns c =
-    sym (seek-any (c .before .before .before .before .loop .inv) (search needs) (rw (
-      ← c .before .before .before .before .before .run-of .ensures .0,
+    let loop = c .before .before .before .before .loop in
+    let run-of = c .before .before .before .before .before .run-of in
+    sym (seek-any (loop .inv) (search needs) (rw (
+      ← run-of .ensures .0,
       ← c .before .before .run-of2 .ensures .0,
     ) (sym (c .before .do-clash .ensures) ∙ c .if1 .taken)))
 
-add-j : tie.Need-add-j Inv-loop μ-loop
-add-j c = search needs
-
-loop-less : tie.Need-loop-less Inv-loop μ-loop
-loop-less c = search needs
-
 loop-again : tie.Need-loop-again Inv-loop μ-loop
 loop-again c =
-    seek-more (c .before .before .before .before .loop .inv) (search needs) (rw (
-      ← c .before .before .before .before .before .run-of .ensures .0,
+    let loop = c .before .before .before .before .loop in
+    let run-of = c .before .before .before .before .before .run-of in
+    seek-more (loop .inv) (search needs) (rw (
+      ← run-of .ensures .0,
       ← c .before .before .run-of2 .ensures .0,
     ) (sym (c .before .do-clash .ensures) ∙ c .if1 .left))
 
@@ -57,12 +46,12 @@ clashes-spec =
     (tie.spec
     Inv-loop
     μ-loop
-    run-of-requires
+    (λ c κs. search needs)
     loop-holds
-    run-of-requires-2
-    do-clash-requires
+    (λ c κs. search needs)
+    (λ c κs. search needs)
     returns
-    add-j
-    loop-less
+    (λ c. search needs)
+    (λ c. search needs)
     loop-again
     returns-2)

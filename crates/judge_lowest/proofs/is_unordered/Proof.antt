@@ -11,18 +11,6 @@ returns : tie.Need-returns
 unfolding unordered
 returns c = rw (c .if1 .taken)
 
-sub-run-of : tie.Need-sub-run-of
-sub-run-of c = search needs
-
-run-of-requires : tie.Need-run-of-requires
-run-of-requires c κs = search needs
-
-run-of-requires-2 : tie.Need-run-of-requires-2
-run-of-requires-2 c κs = search needs
-
-is-before-requires : tie.Need-is-before-requires
-is-before-requires c κs = search needs
-
 returns-2 : tie.Need-returns-2
 returns-2 c =
     rw (
@@ -34,4 +22,4 @@ returns-2 c =
 pub is-unordered-spec : {M : Type 1} → statement M
 is-unordered-spec =
     tie.close
-    (tie.spec returns sub-run-of run-of-requires run-of-requires-2 is-before-requires returns-2)
+    (tie.spec returns (λ c. search needs) (λ c κs. search needs) (λ c κs. search needs) (λ c κs. search needs) returns-2)

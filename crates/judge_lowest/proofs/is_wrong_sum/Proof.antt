@@ -8,24 +8,13 @@ use Rattle.table_tally.proofs.Tallied.{units-told}
 use Rattle.judge_lowest.proofs.is_wrong_sum.Statement.{statement}
 use Rattle.judge_lowest.proofs.is_wrong_sum.Tie as tie
 
-mul-result : tie.Need-mul-result
-mul-result c = search needs
-
-element-copy-out-result : tie.Need-element-copy-out-result
-element-copy-out-result c = search needs
-
-duty-of-requires : tie.Need-duty-of-requires
-duty-of-requires c κs = search needs
-
-slice-of-requires : tie.Need-slice-of-requires
-slice-of-requires c κs = search needs
-
 returns : tie.Need-returns
 returns c =
     let start = c .before .before .before .before in
     rw (
       start .pre .1 .0,
-      units-told (tableOf (start .args .b .now) (start .args .rd)) (start .args .i) (omega (arith, start .pre .1 .1, start .pre .0 .duties-most)),
+      units-told (tableOf (start .args .b .now) (start .args .rd)) (start .args .i)
+          (omega (arith, start .pre .1 .1, start .pre .0 .duties-most)),
       table-ticks _ _ (start .pre .0),
       c .slice-of .ensures .0,
       c .before .duty-of .ensures .0,
@@ -34,4 +23,4 @@ returns c =
 pub is-wrong-sum-spec : {M : Type 1} → statement M
 is-wrong-sum-spec =
     tie.close
-    (tie.spec mul-result element-copy-out-result duty-of-requires slice-of-requires returns)
+    (tie.spec (λ c. search needs) (λ c. search needs) (λ c κs. search needs) (λ c κs. search needs) returns)

@@ -1,4 +1,5 @@
--- `judge_runs`: rules 13 to 17 in their order. Each search that finds nothing leaves the rules after it; one that finds a place is the answer.
+-- `judge_runs`: rules 13 to 17 in their order. Each search that finds nothing leaves the rules after it; one that finds a place is the
+-- answer.
 -- Assumes nothing.
 use mathlib.Core.Path.{_≡_, _∙_}
 use native.Mathlib.Omega.{arith}
@@ -56,7 +57,9 @@ unfolding judgeRuns
 ordered c = found-none 13 _ (c .before .bad-order .ensures) (runs (c .before .before .before .before)) (omega arith)
 
 lowest-clash-requires : tie.Need-lowest-clash-requires
-lowest-clash-requires c κs = c .before .before .before .before .pre .0
+lowest-clash-requires c κs =
+    let start = c .before .before .before .before in
+    start .pre .0
 
 returns-2 : tie.Need-returns-2
 returns-2 c =
@@ -70,7 +73,9 @@ apart c =
     ordered (c .before .before) ∙ found-none 14 _ (c .before .lowest-clash .ensures) (runs s) (omega arith)
 
 lowest-clash-requires-2 : tie.Need-lowest-clash-requires-2
-lowest-clash-requires-2 c κs = c .before .before .before .before .before .before .pre .0
+lowest-clash-requires-2 c κs =
+    let start = c .before .before .before .before .before .before in
+    start .pre .0
 
 returns-3 : tie.Need-returns-3
 returns-3 c =
@@ -84,7 +89,9 @@ unjoined c =
     apart (c .before .before) ∙ found-none 15 _ (c .before .lowest-clash2 .ensures) (runs s) (omega arith)
 
 lowest-clash-requires-3 : tie.Need-lowest-clash-requires-3
-lowest-clash-requires-3 c κs = c .before .before .before .before .before .before .before .before .pre .0
+lowest-clash-requires-3 c κs =
+    let start = c .before .before .before .before .before .before .before .before in
+    start .pre .0
 
 returns-4 : tie.Need-returns-4
 returns-4 c =
@@ -98,7 +105,9 @@ single c =
     unjoined (c .before .before) ∙ found-none 16 _ (c .before .lowest-clash3 .ensures) (runs s) (omega arith)
 
 bad-sum-requires : tie.Need-bad-sum-requires
-bad-sum-requires c κs = c .before .before .before .before .before .before .before .before .before .before .pre
+bad-sum-requires c κs =
+    let start = c .before .before .before .before .before .before .before .before .before .before in
+    start .pre
 
 cast-if5 : tie.Need-cast-if5
 cast-if5 c = omega arith
@@ -111,7 +120,10 @@ returns-5 c =
 returns-6 : tie.Need-returns-6
 returns-6 c =
     let s = c .before .before .before .before .before .before .before .before .before .before .before .before .before in
-    rw (single (c .before .before .before) ∙ found-none 17 _ (c .before .before .bad-sum .ensures) (duties s) (omega arith), table-reading _ _ (s .pre .0))
+    rw (
+      single (c .before .before .before) ∙ found-none 17 _ (c .before .before .bad-sum .ensures) (duties s) (omega arith),
+      table-reading _ _ (s .pre .0),
+    )
 
 pub judge-runs-spec : {M : Type 1} → statement M
 judge-runs-spec =

@@ -1,0 +1,19 @@
+-- A ruling that is a fault: it is told as such, and nothing is ready to be asked.
+-- Assumes nothing.
+use Prim.Native.Nat.{ℕ}
+use mathlib.Core.Path.{_≡_, sym, ap, _∙_}
+use mathlib.Core.List.{List}
+use Rattle.paper.specs.declared.Fault.{Fault}
+use Rattle.paper.specs.declared.Judged.the-variants.{Bad}
+use Rattle.paper.specs.Outcome.{refusedAs, refusalOf, judgedAs}
+use Rattle.paper.specs.Rules.{judged}
+use Rattle.paper.proofs.Outcomes.{answered}
+use Rattle.judge.specs.declared.Ruling.{Ruling}
+use Rattle.judge.specs.Ruled.{Ruled}
+
+pub fault-ruled : {b : List ℕ} {r : Ruling} {f : Fault} → r .judged ≡ Bad f → judged b ≡ refusedAs (refusalOf f) → Ruled b r
+fault-ruled {b} {r} {f} q e =
+    record {
+      told = ap judgedAs q ∙ sym e;
+      ready = λ rd p. answered rd (refusalOf f .number) (refusalOf f .place) (ap judgedAs (sym p ∙ q));
+    }
