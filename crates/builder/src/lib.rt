@@ -3,35 +3,34 @@
 ghost use Prim.Native.Nat.{_≤_};
 ghost use lib.ListN.{length};
 ghost use Rattle.paper.specs.Outcome.{Writes};
-ghost use Rattle.paper.specs.Bytes.{small};
+ghost use Rattle.paper.specs.Limits.{mostEngines};
 ghost use Rattle.paper.specs.Wanted.{dutiesOf, wanted};
 ghost use Rattle.duty_lists.specs.Sliceable.{Sliceable};
 ghost use Rattle.builder.specs.BuildAt.{buildAt};
 ghost use Rattle.paper.specs.Builder.{build as buildFrom};
-use duty_lists::bad_slice;
 use duty_lists::take_duties;
 use paper::Refusal;
 use paper::Verdict;
 use paper::Written;
 use sa1_runs::fit_table;
-use sa1_table::lay_out;
+use sa1_table::measure;
 use sa1_table::put_table;
 use slices::gcd_of_all;
 
 // The builder from refusal 6 on, for any block length in range. The answer is the table's length in bytes.
 fn build_fitting(t: u32, engines: u32, services: &[u32], periods: &[u32], out: &mut [u8]) -> Written
-    requires { ⌜ Sliceable t (now services) (now periods) × (engines ≤ small .mostEngines) ⌝ }
-    ensures { λ r. ⌜ Writes (buildAt t engines (dutiesOf (now (services .entry)) (now (periods .entry))) (length (now (out .entry)))) r (now (out .entry)) (now (out .exit)) ⌝ }
+    requires { ⌜ Sliceable t (now services) (now periods) × (engines ≤ mostEngines) ⌝ }
+    ensures { λ r. ⌜ Writes (buildAt t engines (dutiesOf (now (services .entry)) (now (periods .entry))) (length (now (out .entry)))) r
+        (now (out .entry)) (now (out .exit)) ⌝ }
 {
     let duties = services.len();
-    let bad = bad_slice(t, services, periods);
-    if bad < duties {
+    let laid = measure(t, services, periods);
+    if laid.bad < duties {
         return Written::Refused(Refusal {
             number: 6,
-            place: bad,
+            place: laid.bad,
         });
     }
-    let laid = lay_out(t, services, periods);
     let fitting = fit_table(t, engines, laid.end, duties, laid.runs, out.len());
     match fitting {
         Written::Refused(why) => Written::Refused(why),
@@ -45,7 +44,8 @@ fn build_fitting(t: u32, engines: u32, services: &[u32], periods: &[u32], out: &
 // Builds a table from services and periods. The answer is the table's length in bytes; bytes past it stay. A refusal
 // writes nothing.
 pub fn build(engines: u32, services: &[u32], periods: &[u32], out: &mut [u8]) -> Written
-    ensures { λ r. ⌜ Writes (buildFrom (wanted engines (now (services .entry)) (now (periods .entry))) (length (now (out .entry)))) r (now (out .entry)) (now (out .exit)) ⌝ }
+    ensures { λ r. ⌜ Writes (buildFrom (wanted engines (now (services .entry)) (now (periods .entry))) (length (now (out .entry)))) r
+        (now (out .entry)) (now (out .exit)) ⌝ }
 {
     let verdict = take_duties(engines, services, periods);
     match verdict {

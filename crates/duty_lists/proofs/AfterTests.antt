@@ -1,12 +1,11 @@
 -- What tests 1 to 5 leave. Where their verdict is done, none of them applies; the block length is then the greatest common divisor of the
 -- periods, and it is in range, since it divides a period that is.
 -- Assumes nothing.
-use Prim.Native.Nat.{ℕ, _≤_, _<_, _∣_}
+use Prim.Native.Nat.{_≤_}
 use mathlib.Core.Path.{_≡_, sym, _∙_}
 use native.Mathlib.Omega.{arith}
-use lib.ListN.{length, getD}
+use lib.ListN.{length}
 use Rattle.laws.specs.Divisor.{gcdOf}
-use Rattle.laws.proofs.Divisor.{gcdOf-divides}
 use Rattle.paper.specs.declared.Verdict.{Verdict}
 use Rattle.paper.specs.declared.Verdict.the-variants.{Done}
 use Rattle.paper.specs.Words.{blockLengthOf}
@@ -14,10 +13,9 @@ use Rattle.paper.specs.Outcome.{verdictAs}
 use Rattle.paper.specs.Wanted.{Wanted, dutySet, taken}
 use Rattle.table_laws.proofs.Accepted.{block-divides}
 use Rattle.plan_laws.proofs.Sa1Table.{ticks-within}
-use Rattle.plan_laws.proofs.Planned.{block-least, length-duties}
+use Rattle.plan_laws.proofs.Planned.{block-least, length-duties, block-length-is}
 use Rattle.plan_laws.proofs.TakenWhen.{Taken, taken-told}
 use Rattle.duty_lists.specs.Sliceable.{Sliceable}
-use Rattle.duty_lists.proofs.Duties.{block-length-is}
 
 module _ (x : Wanted) where
   -- where the verdict is done, none of 1 to 5 applies

@@ -1,32 +1,27 @@
--- The duties of two lists: which one stands where, their block length, and what is left of them and of
--- their slices. A duty of the lists is made of the entries at its index, so each is a law of `tab` and `map`.
+-- The duties of two lists, one by one: what a duty's share asks for, and the slices that are left at a duty.
 -- Assumes nothing.
 use Prim.Native.Nat.{ℕ, _+_, _≤_, _<_}
 use mathlib.Core.Path.{_≡_, sym, ap, _∙_}
 use mathlib.Core.List.{List, [], _∷_, map}
 use native.Mathlib.Numerals.{add-one}
 use native.Mathlib.Omega.{arith}
-use lib.ListN.{length, getD, drop, drop-of-length-le, length-map}
+use lib.ListN.{length, drop, drop-of-length-le, length-map}
 use lib.Seq.{drop-cons}
-use Rattle.laws.specs.Divisor.{gcdOf}
 use Rattle.laws.specs.Lists.{sumOf}
-use Rattle.laws.proofs.Lists.{getD-tab, drop-map, sumOf-step, sumOf-done}
+use Rattle.laws.proofs.Lists.{drop-map, sumOf-step, sumOf-done}
 use Rattle.paper.specs.declared.Duty.{Duty}
 use Rattle.paper.specs.Duties.{duty, dutyAt}
-use Rattle.paper.specs.Words.{slice, blockLengthOf}
+use Rattle.paper.specs.Words.{slice}
+use Rattle.paper.specs.Limits.{mostTicks}
 use Rattle.paper.specs.Sa1.{slices}
 use Rattle.paper.specs.Wanted.{dutiesOf}
-use Rattle.plan_laws.proofs.Planned.{periods-back}
+use Rattle.duty_lists.specs.Sliceable.{Sliceable}
 
--- duty i has the entries at i
-pub duty-is : (ss ps : List ℕ) (i : ℕ) → i < length ss → dutyAt (dutiesOf ss ps) i ≡ duty (getD ss i 0) (getD ps i 0)
-unfolding dutiesOf
-duty-is ss ps i h = getD-tab (length ss) (λ d. duty (getD ss d 0) (getD ps d 0)) (duty 0 0) i h
-
--- their block length is the greatest common divisor of the periods
-pub block-length-is : (ss ps : List ℕ) → length ss ≡ length ps → blockLengthOf (dutiesOf ss ps) ≡ gcdOf ps
-unfolding blockLengthOf
-block-length-is ss ps e = ap gcdOf (periods-back ss ps e)
+-- what the share of duty i asks for
+pub share-asked :
+    {t : ℕ} {ss ps : List ℕ} {x : Duty} {i : ℕ} → Sliceable t ss ps → i < length ss → x ≡ dutyAt (dutiesOf ss ps) i
+    → (t ≤ mostTicks) × (x .service ≤ mostTicks) × (x .service ≤ x .period) × (0 < x .period)
+share-asked {t} {ss} {ps} {x} {i} fit h e = rw e (omega (arith, fit .ticks-most, fit .ranged i h))
 
 -- the slices that are left at index i begin with duty i's; after the last duty none is left
 pub slices-left :

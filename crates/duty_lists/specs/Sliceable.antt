@@ -4,14 +4,14 @@ use mathlib.Core.Path.{_≡_}
 use mathlib.Core.List.{List}
 use lib.ListN.{length}
 use Rattle.paper.specs.Duties.{dutyAt}
-use Rattle.paper.specs.Bytes.{small, mostTicks}
+use Rattle.paper.specs.Limits.{mostDuties, mostTicks}
 use Rattle.paper.specs.Wanted.{dutiesOf}
 use Rattle.paper.specs.Statements.{DutyRanged}
 
 -- two lists of one length, of no more duties than a table has
 pub record Paired (ss ps : List ℕ) : Type 0 where
   pub same : length ss ≡ length ps
-  pub few : length ss ≤ small .mostDuties
+  pub few : length ss ≤ mostDuties
 
 -- what the tests up to refusal 5 have made sure of, and a block length in range. Nothing here says that it is the greatest
 pub record Sliceable (t : ℕ) (ss ps : List ℕ) : Type 0 where

@@ -1,23 +1,19 @@
-// What stands in the builder's two lists, services and periods: the duties, and tests 1 to 5, after which they are taken; then the first
-// duty whose slice is not whole, and the slices.
+// What stands in the builder's two lists, services and periods: the duties, and tests 1 to 5, after which they are taken.
 ghost use mathlib.Core.Path.{_≡_};
-ghost use Prim.Native.Nat.{_≤_, _<_};
+ghost use Prim.Native.Nat.{_<_};
 ghost use lib.ListN.{length};
-ghost use Rattle.paper.specs.declared.Duty.{Duty};
 ghost use Rattle.paper.specs.Duties.{dutyAt};
-ghost use Rattle.paper.specs.Words.{slice};
 ghost use Rattle.paper.specs.Outcome.{verdictAs};
 ghost use Rattle.paper.specs.Wanted.{wanted, dutiesOf, badRange, taken};
-ghost use Rattle.paper.specs.Builder.{badSlice};
-ghost use Rattle.duty_lists.specs.Sliceable.{Paired, Sliceable};
+ghost use Rattle.duty_lists.specs.Sliceable.{Paired};
 use paper::Duty;
 use paper::Refusal;
 use paper::Verdict;
+use paper::limits::MOST_DUTIES;
+use paper::limits::MOST_ENGINES;
 use slices::duty_in_range;
-use slices::is_whole;
 use slices::is_within;
 use slices::range_fault;
-use slices::slice_of;
 
 // Duty i of the two lists.
 pub fn duty_at(services: &[u32], periods: &[u32], i: usize) -> Duty
@@ -47,9 +43,10 @@ fn bad_range(services: &[u32], periods: &[u32]) -> usize
 
 // Takes the duties of the two lists, after tests 1 to 5 in their order.
 pub fn take_duties(engines: u32, services: &[u32], periods: &[u32]) -> Verdict
-    ensures { λ r. ⌜ verdictAs r (dutiesOf (now (services .entry)) (now (periods .entry))) ≡ taken (wanted engines (now (services .entry)) (now (periods .entry))) ⌝ }
+    ensures { λ r. ⌜ verdictAs r (dutiesOf (now (services .entry)) (now (periods .entry)))
+        ≡ taken (wanted engines (now (services .entry)) (now (periods .entry))) ⌝ }
 {
-    if !is_within(1, 32, engines as usize) {
+    if !is_within(1, MOST_ENGINES, engines as usize) {
         return Verdict::Refused(Refusal {
             number: 1,
             place: 0,
@@ -62,7 +59,7 @@ pub fn take_duties(engines: u32, services: &[u32], periods: &[u32]) -> Verdict
             place: 0,
         });
     }
-    if !is_within(1, 64, duties) {
+    if !is_within(1, MOST_DUTIES, duties) {
         return Verdict::Refused(Refusal {
             number: 3,
             place: 0,
@@ -74,27 +71,4 @@ pub fn take_duties(engines: u32, services: &[u32], periods: &[u32]) -> Verdict
         return Verdict::Refused(why);
     }
     Verdict::Done
-}
-
-// The first duty whose slice is not whole, or how many there are.
-pub fn bad_slice(t: u32, services: &[u32], periods: &[u32]) -> usize
-    requires { ⌜ Sliceable t (now services) (now periods) ⌝ }
-    ensures { λ r. ⌜ r ≡ badSlice t (dutiesOf (now (services .entry)) (now (periods .entry))) ⌝ }
-{
-    let mut i = 0;
-    while i < services.len() {
-        if !is_whole(t, duty_at(services, periods, i)) {
-            return i;
-        }
-        i += 1;
-    }
-    i
-}
-
-// The slice of duty i: at most the block length.
-pub fn slice_at(t: u32, services: &[u32], periods: &[u32], i: usize) -> u32
-    requires { ⌜ Sliceable t (now services) (now periods) × (i < length (now services)) ⌝ }
-    ensures { λ r. ⌜ (r ≡ slice t (dutyAt (dutiesOf (now (services .entry)) (now (periods .entry))) i)) × (r ≤ t) ⌝ }
-{
-    slice_of(t, duty_at(services, periods, i))
 }

@@ -1,5 +1,5 @@
--- Refusals 7 and 8 by numbers, in their order: what each test that holds comes to, what is left once it has failed, and what an answer tells
--- of the tests.
+-- Refusals 7 and 8 by numbers, in their order: what each test that holds comes to, what is left once it has failed, and what an answer
+-- tells of the tests.
 -- Assumes nothing.
 use Prim.Native.Nat.{ℕ, _≤_, _<_}
 use mathlib.Core.Path.{_≡_, sym}

@@ -1,4 +1,5 @@
--- Refusals 7 and 8 by numbers: the units that the engines have and those that are laid, the bytes that the table needs and those that there are.
+-- Refusals 7 and 8 by numbers: the units that the engines have and those that are laid, the bytes that the table needs and those that
+-- there are.
 use Prim.Native.Nat.{ℕ}
 use lib.Dec.{ltb}
 use Rattle.laws.specs.Choice.{pick}

@@ -3,13 +3,17 @@
 ghost use mathlib.Core.Path.{_≡_};
 ghost use Prim.Native.Nat.{_+_, _*_, _≤_, _<_};
 ghost use Rattle.paper.specs.Outcome.{writtenAs};
-ghost use Rattle.paper.specs.Bytes.{small, mostTicks};
+ghost use Rattle.paper.specs.Limits.{small, mostEngines, mostDuties, mostRuns, mostTicks, tableLength};
 ghost use Rattle.sa1_runs.specs.Laying.{placeAfter, runsAt, firstRun, secondRun, unitsTo};
 ghost use Rattle.sa1_runs.specs.Fitting.{fittedBy};
 use paper::Refusal;
 use paper::Row;
 use paper::Run;
 use paper::Written;
+use paper::limits::DUTY_LENGTH;
+use paper::limits::END_LENGTH;
+use paper::limits::HEAD_LENGTH;
+use paper::limits::RUN_LENGTH;
 
 // The row and the unit where the next duty starts.
 pub struct Place {
@@ -19,7 +23,7 @@ pub struct Place {
 
 // The place after n units from here: at an exact fit and after a split it is on the next row.
 pub fn after(t: u32, n: u32, from: Place) -> Place
-    requires { ⌜ (from .unit < t) × (n ≤ t) × (t ≤ mostTicks) × (from .row .0 ≤ small .mostDuties) ⌝ }
+    requires { ⌜ (from .unit < t) × (n ≤ t) × (t ≤ mostTicks) × (from .row .0 ≤ mostDuties) ⌝ }
     ensures { λ r. ⌜ (r ≡ placeAfter t n from) × (r .unit < t) × (r .row .0 ≤ from .row .0 + 1) ⌝ }
 {
     let row = from.row.0;
@@ -67,7 +71,7 @@ pub fn first_run(t: u32, n: u32, i: u32, from: Place) -> Run
 
 // The second run of a split duty: it starts at unit 0 of the next row and has what is left.
 pub fn second_run(t: u32, n: u32, i: u32, from: Place) -> Run
-    requires { ⌜ (from .unit < t) × (n ≤ t) × (t ≤ mostTicks) × (from .row .0 ≤ small .mostDuties) × (t < from .unit + n) ⌝ }
+    requires { ⌜ (from .unit < t) × (n ≤ t) × (t ≤ mostTicks) × (from .row .0 ≤ mostDuties) × (t < from .unit + n) ⌝ }
     ensures { λ r. ⌜ r ≡ secondRun t n i from ⌝ }
 {
     let next = from.row.0 + 1;
@@ -80,8 +84,8 @@ pub fn second_run(t: u32, n: u32, i: u32, from: Place) -> Run
     }
 }
 
-// Refusals 7 and 8, of slices that are laid up to a place: more units than the engines have, and a buffer with less room than the table needs.
-// Else the table's length in bytes.
+// Refusals 7 and 8, of slices that are laid up to a place: more units than the engines have, and a buffer with less room than the table
+// needs. Else the table's length in bytes.
 pub fn fit_table(
     t: u32,
     engines: u32,
@@ -90,9 +94,9 @@ pub fn fit_table(
     runs: usize,
     room: usize,
 ) -> Written
-    requires { ⌜ (t ≤ mostTicks) × (engines ≤ small .mostEngines) × (end .unit < t) × (end .row .0 ≤ small .mostDuties) ⌝ }
-    requires { ⌜ (duties ≤ small .mostDuties) × (runs ≤ small .mostRuns) ⌝ }
-    ensures { λ r. ⌜ writtenAs r ≡ fittedBy (engines * t) (unitsTo t end) (10 + 9 * duties + 11 * runs) room ⌝ }
+    requires { ⌜ (t ≤ mostTicks) × (engines ≤ mostEngines) × (end .unit < t) × (end .row .0 ≤ mostDuties) ⌝ }
+    requires { ⌜ (duties ≤ mostDuties) × (runs ≤ mostRuns) ⌝ }
+    ensures { λ r. ⌜ writtenAs r ≡ fittedBy (engines * t) (unitsTo t end) (tableLength small duties runs) room ⌝ }
 {
     if engines * t < end.row.0 * t + end.unit {
         return Written::Refused(Refusal {
@@ -100,7 +104,7 @@ pub fn fit_table(
             place: 0,
         });
     }
-    let needed = 10 + 9 * duties + 11 * runs;
+    let needed = HEAD_LENGTH + DUTY_LENGTH * duties + RUN_LENGTH * runs + END_LENGTH;
     if room < needed {
         return Written::Refused(Refusal {
             number: 8,

@@ -1,7 +1,8 @@
--- SA1 duty by duty: what is left to lay, to count and to write at duty i is its own slice, and from the place after it what is left at the next.
+-- SA1 duty by duty: what is left to lay, to count and to write at duty i is its own slice, and from the place after it what is left at the
+-- next.
 -- Assumes nothing.
 use Prim.Native.Nat.{ℕ, _+_, _≤_, _<_}
-use mathlib.Core.Path.{_≡_, refl, sym, ap, _∙_}
+use mathlib.Core.Path.{_≡_, sym, ap, _∙_}
 use mathlib.Core.List.{List, [], _∷_, _++_}
 use native.Mathlib.Omega.{arith}
 use lib.ListN.{length, drop, length-append}
@@ -9,24 +10,15 @@ use Rattle.laws.proofs.Lists.{flat-append, flat-end}
 use Rattle.paper.specs.declared.Duty.{Duty}
 use Rattle.paper.specs.Duties.{dutyAt}
 use Rattle.paper.specs.Words.{slice}
-use Rattle.paper.specs.Sa1.{lay, slices}
-use Rattle.paper.specs.Bytes.{small, runBytes}
+use Rattle.paper.specs.Sa1.{slices}
+use Rattle.paper.specs.Limits.{small}
+use Rattle.paper.specs.Bytes.{runBytes}
+use Rattle.plan_laws.proofs.Sa1.{lay-step, lay-end}
 use Rattle.duty_lists.proofs.Duties.{slices-left, slices-none}
 use Rattle.sa1_runs.specs.declared.Place.{Place}
 use Rattle.sa1_runs.specs.Laying.{placeAfter, laidAt, laidFrom, runsAt}
 use Rattle.sa1_table.specs.RunBytes.{runsBytes}
 use Rattle.sa1_runs.proofs.Laying.{laid-length}
-
--- one slice, then the others from the place after it
-lay-step :
-    (t n : ℕ) (ns : List ℕ) (i : ℕ) (p : Place)
-    → laidFrom t (n ∷ ns) i p ≡ laidAt t n i p ++ laidFrom t ns (i + 1) (placeAfter t n p)
-unfolding lay
-lay-step t n ns i p = refl
-
-lay-end : (t i : ℕ) (p : Place) → laidFrom t [] i p ≡ []
-unfolding lay
-lay-end t i p = refl
 
 -- what is left to lay at duty i from place p on: its n units, and from the place q after them what is left at the next duty
 pub lay-left :
@@ -34,12 +26,12 @@ pub lay-left :
     → laidFrom t (drop i (slices t ds)) i p ≡ laidAt t n i p ++ laidFrom t (drop (i + 1) (slices t ds)) (i + 1) q
 lay-left t n ds i p q h e f =
     ap (λ (ns : List ℕ). laidFrom t ns i p) (slices-left t ds i h ∙ ap (λ (k : ℕ). k ∷ drop (i + 1) (slices t ds)) (sym e))
-    ∙ lay-step t n (drop (i + 1) (slices t ds)) i p
+    ∙ lay-step t n (drop (i + 1) (slices t ds)) i (p .row .0) (p .unit)
     ∙ ap (λ (x : Place). laidAt t n i p ++ laidFrom t (drop (i + 1) (slices t ds)) (i + 1) x) (sym f)
 
 -- after the last duty nothing is left
 pub lay-none : (t : ℕ) (ds : List Duty) (i : ℕ) (p : Place) → length ds ≤ i → laidFrom t (drop i (slices t ds)) i p ≡ []
-lay-none t ds i p h = ap (λ (ns : List ℕ). laidFrom t ns i p) (slices-none t ds i h) ∙ lay-end t i p
+lay-none t ds i p h = ap (λ (ns : List ℕ). laidFrom t ns i p) (slices-none t ds i h) ∙ lay-end t i (p .row .0) (p .unit)
 
 -- the same by the number of runs
 pub count-left :
@@ -56,7 +48,8 @@ count-none t ds i p h = ap length (lay-none t ds i p h)
 -- the same by their bytes
 pub bytes-left :
     (t n : ℕ) (ds : List Duty) (i : ℕ) (p q : Place) → i < length ds → n ≡ slice t (dutyAt ds i) → q ≡ placeAfter t n p
-    → runsBytes (laidFrom t (drop i (slices t ds)) i p) ≡ runsBytes (laidAt t n i p) ++ runsBytes (laidFrom t (drop (i + 1) (slices t ds)) (i + 1) q)
+    → runsBytes (laidFrom t (drop i (slices t ds)) i p)
+    ≡ runsBytes (laidAt t n i p) ++ runsBytes (laidFrom t (drop (i + 1) (slices t ds)) (i + 1) q)
 bytes-left t n ds i p q h e f =
     ap runsBytes (lay-left t n ds i p q h e f)
     ∙ flat-append (runBytes small) (laidAt t n i p) (laidFrom t (drop (i + 1) (slices t ds)) (i + 1) q)

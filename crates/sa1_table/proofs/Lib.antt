@@ -1,3 +1,4 @@
 pub mod LaidLeft
 pub mod RunBytes
 pub mod Table
+pub mod Recording

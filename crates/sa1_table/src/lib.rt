@@ -1,19 +1,22 @@
-// SA1's table: its layout, which tells whether it fits; and its bytes, the head, the duties, the runs and the end, each record where the last
-// one stopped.
+// SA1's table: its slices measured, which tells whether they are whole and whether it fits; and its bytes, the head, the duties, the runs
+// and the end.
 ghost use mathlib.Core.Path.{_≡_};
 ghost use Prim.Native.Nat.{_+_, _*_, _≤_, _<_};
 ghost use lib.ListN.{length};
-ghost use Rattle.laws.specs.Lists.{over, flat};
+ghost use Rattle.laws.specs.Lists.{over};
 ghost use Rattle.paper.specs.Sa1.{slices, sa1};
-ghost use Rattle.paper.specs.Bytes.{small, mostTicks, dutyBytes, encode};
+ghost use Rattle.paper.specs.Limits.{small, mostDuties, mostTicks, runLength, tableLength};
+ghost use Rattle.paper.specs.Bytes.{bytesOf};
 ghost use Rattle.paper.specs.Wanted.{dutiesOf};
-ghost use Rattle.duty_lists.specs.Sliceable.{Paired, Sliceable};
+ghost use Rattle.duty_lists.specs.Sliceable.{Sliceable};
 ghost use Rattle.sa1_runs.specs.Laying.{laidAt, laidFrom, runsAt, corner};
-ghost use Rattle.sa1_table.specs.Layouts.{LaidOut};
-ghost use Rattle.sa1_table.specs.RunBytes.{runsBytes};
+ghost use Rattle.sa1_table.specs.Layouts.{Measured};
+ghost use Rattle.sa1_table.specs.RunBytes.{runsBytes, recordsBytes, recordsLength};
 use duty_lists::duty_at;
-use duty_lists::slice_at;
 use paper::Row;
+use paper::limits::DUTY_LENGTH;
+use paper::limits::HEAD_LENGTH;
+use paper::limits::RUN_LENGTH;
 use record_write::put_duty;
 use record_write::put_end;
 use record_write::put_head;
@@ -23,17 +26,21 @@ use sa1_runs::after;
 use sa1_runs::first_run;
 use sa1_runs::runs_at;
 use sa1_runs::second_run;
+use slices::share_of;
+use slices::slice_of;
 
-// What the slices come to when they are laid one after the other: how many runs they make, and the place after the last.
+// What the slices come to when they are laid one after the other: the first duty whose slice is not whole, or how many there are; how many
+// runs they make up to it; and the place after the last of these.
 pub struct Layout {
+    pub bad: usize,
     pub runs: usize,
     pub end: Place,
 }
 
-// Lays the slices of all duties by SA1, from unit 0 of row 0 on, and writes nothing.
-pub fn lay_out(t: u32, services: &[u32], periods: &[u32]) -> Layout
+// Lays the slices of all duties by SA1, from unit 0 of row 0 on, up to the first that is not whole, and writes nothing.
+pub fn measure(t: u32, services: &[u32], periods: &[u32]) -> Layout
     requires { ⌜ Sliceable t (now services) (now periods) ⌝ }
-    ensures { λ r. ⌜ LaidOut t (dutiesOf (now (services .entry)) (now (periods .entry))) r ⌝ }
+    ensures { λ r. ⌜ Measured t (dutiesOf (now (services .entry)) (now (periods .entry))) r ⌝ }
 {
     let mut runs = 0;
     let mut place = Place {
@@ -42,62 +49,66 @@ pub fn lay_out(t: u32, services: &[u32], periods: &[u32]) -> Layout
     };
     let mut i = 0;
     while i < services.len() {
-        let n = slice_at(t, services, periods, i);
-        runs += runs_at(t, n, place.unit);
-        place = after(t, n, place);
+        let share = share_of(t, duty_at(services, periods, i));
+        if 0 < share.rest {
+            return Layout {
+                bad: i,
+                runs,
+                end: place,
+            };
+        }
+        runs += runs_at(t, share.units, place.unit);
+        place = after(t, share.units, place);
         i += 1;
     }
-    Layout { runs, end: place }
+    Layout {
+        bad: i,
+        runs,
+        end: place,
+    }
 }
 
 // Writes the runs of duty i, whose slice is n, each where the last one stopped, and answers how many bytes they have.
 fn put_duty_runs(out: &mut [u8], t: u32, n: u32, i: u32, from: Place) -> usize
-    requires { ⌜ (from .unit < t) × (n ≤ t) × (t ≤ mostTicks) × (from .row .0 ≤ small .mostDuties) × (11 * runsAt t n (from .unit) ≤ length (now out)) ⌝ }
-    ensures { λ r. ⌜ (now (out .exit) ≡ over (runsBytes (laidAt t n i from)) (now (out .entry))) × (r ≡ 11 * runsAt t n (from .unit)) ⌝ }
+    requires { ⌜ (from .unit < t) × (n ≤ t) × (t ≤ mostTicks) × (from .row .0 ≤ mostDuties)
+        × (runLength small * runsAt t n (from .unit) ≤ length (now out)) ⌝ }
+    ensures { λ r. ⌜ (now (out .exit) ≡ over (runsBytes (laidAt t n i from)) (now (out .entry)))
+        × (r ≡ runLength small * runsAt t n (from .unit)) ⌝ }
 {
     put_run(out, first_run(t, n, i, from));
     if runs_at(t, n, from.unit) == 1 {
-        return 11;
+        return RUN_LENGTH;
     }
-    put_run(&mut out[11..], second_run(t, n, i, from));
-    22
+    put_run(&mut out[RUN_LENGTH..], second_run(t, n, i, from));
+    2 * RUN_LENGTH
 }
 
-// Writes the duties over the front of the lent rest.
-fn put_duties(out: &mut [u8], services: &[u32], periods: &[u32])
-    requires { ⌜ Paired (now services) (now periods) × (9 * length (now services) ≤ length (now out)) ⌝ }
-    ensures { λ r. ⌜ now (out .exit) ≡ over (flat dutyBytes (dutiesOf (now (services .entry)) (now (periods .entry)))) (now (out .entry)) ⌝ }
+// Writes the duties over the front of the lent rest and SA1's runs behind them, a duty's record and its runs by turns, each where the last
+// of its kind stopped.
+fn put_records(out: &mut [u8], t: u32, services: &[u32], periods: &[u32])
+    requires { ⌜ Sliceable t (now services) (now periods)
+        × (recordsLength t (dutiesOf (now services) (now periods)) ≤ length (now out)) ⌝ }
+    ensures { λ r. ⌜ now (out .exit)
+        ≡ over (recordsBytes t (dutiesOf (now (services .entry)) (now (periods .entry)))) (now (out .entry)) ⌝ }
 {
-    let mut at = 0;
-    let mut i = 0;
-    while i < services.len() {
-        put_duty(&mut out[at..], duty_at(services, periods, i));
-        at += 9;
-        i += 1;
-    }
-}
-
-// Writes SA1's runs over the front of the lent rest, each duty's where the last one's stopped.
-fn put_runs(out: &mut [u8], t: u32, services: &[u32], periods: &[u32])
-    requires { ⌜ Sliceable t (now services) (now periods) × (11 * length (laidFrom t (slices t (dutiesOf (now services) (now periods))) 0 corner) ≤ length (now out)) ⌝ }
-    ensures { λ r. ⌜ now (out .exit) ≡ over (runsBytes (laidFrom t (slices t (dutiesOf (now (services .entry)) (now (periods .entry)))) 0 corner)) (now (out .entry)) ⌝ }
-{
-    let mut at = 0;
+    let mut at = DUTY_LENGTH * services.len();
     let mut place = Place {
         row: Row(0),
         unit: 0,
     };
     let mut i = 0;
     while i < services.len() {
-        let n = slice_at(t, services, periods, i);
+        let x = duty_at(services, periods, i);
+        let record = DUTY_LENGTH * i;
+        put_duty(&mut out[record..], x);
+        let n = slice_of(t, x);
         at += put_duty_runs(&mut out[at..], t, n, i as u32, place);
         place = after(t, n, place);
         i += 1;
     }
 }
 
-// Writes SA1's table over the front of a buffer that has the room: head, duties, runs, end, each record where the last one
-// stopped. The block length is any in range.
+// Writes SA1's table over the front of a buffer that has the room: head, duties, runs, end. The block length is any in range.
 pub fn put_table(
     out: &mut [u8],
     t: u32,
@@ -106,14 +117,15 @@ pub fn put_table(
     periods: &[u32],
     runs: usize,
 )
-    requires { ⌜ Sliceable t (now services) (now periods) × (runs ≡ length (laidFrom t (slices t (dutiesOf (now services) (now periods))) 0 corner)) × (runs ≤ 2 * length (now services)) × (10 + 9 * length (now services) + 11 * runs ≤ length (now out)) ⌝ }
-    ensures { λ r. ⌜ now (out .exit) ≡ over (encode small (sa1 t engines (dutiesOf (now (services .entry)) (now (periods .entry))))) (now (out .entry)) ⌝ }
+    requires { ⌜ Sliceable t (now services) (now periods)
+        × (runs ≡ length (laidFrom t (slices t (dutiesOf (now services) (now periods))) 0 corner))
+        × (runs ≤ 2 * length (now services)) × (tableLength small (length (now services)) runs ≤ length (now out)) ⌝ }
+    ensures { λ r. ⌜ now (out .exit)
+        ≡ over (bytesOf (sa1 t engines (dutiesOf (now (services .entry)) (now (periods .entry))))) (now (out .entry)) ⌝ }
 {
     let duties = services.len();
     put_head(out, t, engines, duties as u32);
-    put_duties(&mut out[7..], services, periods);
-    let runs_start = 7 + 9 * duties;
-    put_runs(&mut out[runs_start..], t, services, periods);
-    let end = runs_start + 11 * runs;
+    put_records(&mut out[HEAD_LENGTH..], t, services, periods);
+    let end = HEAD_LENGTH + DUTY_LENGTH * duties + RUN_LENGTH * runs;
     put_end(&mut out[end..], runs as u32);
 }

@@ -11,13 +11,14 @@ use Rattle.laws.specs.Sum.{sumTo}
 use Rattle.laws.specs.Lists.{tab}
 use Rattle.laws.proofs.Sum.{sum-none, sum-more}
 use Rattle.laws.proofs.Turned.{Turned, turned-any, turned-more, turned-all}
-use Rattle.paper.specs.Bytes.{mostTicks}
+use Rattle.paper.specs.Limits.{mostTicks}
 use Rattle.paper.specs.Sa2.{Sharing, dutyCount, dutyOf, shareOf, wholeOf, partOf, needsAt}
 use Rattle.share_laws.proofs.Steps.{need-first}
 use Rattle.share_block.specs.Paced.{Rated, Paced}
 
 -- i of n duties are begun; the lists before, and now
-pub record Begun (s : Sharing) (n : ℕ) (rate₀ rest₀ whole₀ part₀ : List ℕ) (i : ℕ) (rate rest whole part : List ℕ) (total : ℕ) : Type 0 where
+pub record Begun (s : Sharing) (n : ℕ) (rate₀ rest₀ whole₀ part₀ : List ℕ) (i : ℕ) (rate rest whole part : List ℕ) (total : ℕ)
+    : Type 0 where
   pub count : n ≡ dutyCount s
   pub within : i ≤ n
   pub rates : Turned (λ k. shareOf s k / dutyOf s k .period) (λ k. getD rate₀ k 0) n i rate
@@ -28,7 +29,8 @@ pub record Begun (s : Sharing) (n : ℕ) (rate₀ rest₀ whole₀ part₀ : Lis
   pub most : total ≤ (mostTicks + 1) * i
 
 pub begun-none :
-    (s : Sharing) (n : ℕ) (rate rest whole part : List ℕ) → n ≡ dutyCount s → length rate ≡ n → length rest ≡ n → length whole ≡ n → length part ≡ n
+    (s : Sharing) (n : ℕ) (rate rest whole part : List ℕ) → n ≡ dutyCount s
+    → length rate ≡ n → length rest ≡ n → length whole ≡ n → length part ≡ n
     → Begun s n rate rest whole part 0 rate rest whole part 0
 begun-none s n rate rest whole part c e f g h =
     record {
@@ -43,7 +45,8 @@ begun-none s n rate rest whole part c e f g h =
     }
 
 -- the whole units and the part of the first need
-first-whole : (s : Sharing) (i : ℕ) → i < dutyCount s → 0 < dutyOf s i .period → wholeOf s (needsAt s 0) i ≡ shareOf s i / dutyOf s i .period + 1
+first-whole :
+    (s : Sharing) (i : ℕ) → i < dutyCount s → 0 < dutyOf s i .period → wholeOf s (needsAt s 0) i ≡ shareOf s i / dutyOf s i .period + 1
 first-whole s i l p = rw (need-first s i l) (add-div-right (shareOf s i) p)
 
 first-part : (s : Sharing) (i : ℕ) → i < dutyCount s → partOf s (needsAt s 0) i ≡ shareOf s i % dutyOf s i .period

@@ -1,6 +1,6 @@
--- A block on its way. Below duty i the lists hold what the next block begins with, and what the duties get; from i on, what this block began
--- with. A turn by plain numbers is a turn of SA2: the share's two numbers add up to T·C, so step 4 is the same, and a duty before the cut is
--- one before which fewer than F want a unit. With it go the sum of the next whole units, and how many duties lacked.
+-- A block on its way. Below duty i the lists hold what the next block begins with, and what the duties get; from i on, what this block
+-- began with. A turn by plain numbers is a turn of SA2: the share's two numbers add up to T·C, so step 4 is the same, and a duty before the
+-- cut is one before which fewer than F want a unit. With it go the sum of the next whole units, and how many duties lacked.
 -- Assumes nothing.
 use Prim.Native.Nat.{ℕ, zero, suc, _+_, _-_, _*_, _/_, _%_, _≤_, _<_}
 use mathlib.Core.Path.{_≡_, refl, sym, ap, _∙_}
@@ -19,15 +19,17 @@ use Rattle.laws.specs.Lists.{tab, over}
 use Rattle.laws.proofs.Sum.{sum-none, sum-more}
 use Rattle.laws.proofs.Lists.{length-tab, getD-tab}
 use Rattle.laws.proofs.Turned.{Turned, turned-none, turned-any, turned-here, turned-more, turned-all, turned-over, any-none, any-more}
-use Rattle.paper.specs.Bytes.{mostTicks}
+use Rattle.paper.specs.Limits.{mostTicks}
 use Rattle.paper.specs.Statements.{DutyRanged}
-use Rattle.paper.specs.Sa2.{Sharing, dutyCount, dutyOf, shareOf, wholeOf, partOf, free, wants, chosen, raisedUnits, nextNeed, needsAt, allotments}
+use Rattle.paper.specs.Sa2.{Sharing, dutyCount, dutyOf, shareOf, wholeOf, partOf, free, wants, chosen, raisedUnits, nextNeed, needsAt}
+use Rattle.paper.specs.Sa2.{allotments}
 use Rattle.share_laws.specs.Short.{lacks, overfull, short}
 use Rattle.share_laws.specs.Cut.{cutOf, cutAt}
 use Rattle.share_laws.proofs.Steps.{need-next, whole-most}
 use Rattle.share_laws.proofs.CutFinds.{chosen-by-cut}
 use Rattle.share_turn.specs.Taking.{chosenBy, nextBy}
-use Rattle.share_block.specs.Paced.{Rated, Needed, Paced}
+use Rattle.share_block.specs.Paced.{Rated, Needed, Paced, freeAt, lackAt, shortAt}
+use Rattle.share_block.proofs.Cutting.{wants-by}
 
 -- the whole units and the part before block b, the units given there
 abbrev wholesOf : Sharing → ℕ → ℕ → ℕ
@@ -88,9 +90,9 @@ pub took :
     → p ≡ nextBy d rate rest part (chosenBy (s .ticks) whole part i cut) % d
     → l ≡ one-if (eqb (whole + one-if (chosenBy (s .ticks) whole part i cut)) 0)
     → Took s ws i u w p l
-unfolding wants raisedUnits nextNeed lacks
+unfolding raisedUnits nextNeed lacks
 took s ws i d rate rest whole part cut u w p l h ed er eq ew ep ec hu hw hp hl =
-    let by-cut : chosenBy (s .ticks) whole part i cut ≡ wants s ws i && ltb i (cutOf s ws) = rw (ew, ep, ec) in
+    let by-cut : chosenBy (s .ticks) whole part i cut ≡ wants s ws i && ltb i (cutOf s ws) = rw (ew, ep, ec, wants-by s ws i) in
     let pick′ : chosenBy (s .ticks) whole part i cut ≡ chosen s ws i = by-cut ∙ sym (chosen-by-cut s ws i h) in
     let need : nextBy d rate rest part (chosenBy (s .ticks) whole part i cut) ≡ nextNeed s ws i =
     rw (pick′, er, eq, ep) (ap (λ (k : ℕ). k + partOf s ws i + pick (chosen s ws i) 0 d) (div-add-mod' (shareOf s i) d) ∙ rw ed) in
@@ -103,19 +105,18 @@ took s ws i d rate rest whole part cut u w p l h ed er eq ew ep ec hu hw hp hl =
 
 -- ---- the lists at a turn
 
--- the free units
-pub free-is :
-    (s : Sharing) (b have total : ℕ) → have ≡ s .engines * s .ticks + dutyCount s → total ≡ sumTo (dutyCount s) (wholesOf s b)
-    → have - total ≡ free s (needsAt s b)
-unfolding free
-free-is s b have total e f = rw (e, f)
+-- the free units of a block, and whether it comes short
+module _
+    (s : Sharing) (b have total : ℕ) (e : have ≡ s .engines * s .ticks + dutyCount s) (f : total ≡ sumTo (dutyCount s) (wholesOf s b)) where
+  room-is : (have - total ≡ freeAt s b) × (lackAt s b || ltb have total ≡ shortAt s b)
+  unfolding free short overfull
+  room-is = (rw (e, f), rw (e, f))
 
--- and whether the block comes short
-pub short-is :
-    (s : Sharing) (b have total : ℕ) (lacking past : Bool) → lacking ≡ any (lacks s (needsAt s b)) (dutyCount s) → past ≡ ltb have total
-    → have ≡ s .engines * s .ticks + dutyCount s → total ≡ sumTo (dutyCount s) (wholesOf s b) → lacking || past ≡ short s (needsAt s b)
-unfolding short overfull
-short-is s b have total lacking past l o e f = rw (l, o, e, f)
+  pub free-is : have - total ≡ freeAt s b
+  free-is = room-is .0
+
+  pub short-is : (lacking past : Bool) → lacking ≡ lackAt s b → past ≡ ltb have total → lacking || past ≡ shortAt s b
+  short-is lacking past l o = rw (l, o) (room-is .1)
 
 -- what is counted is some where it was before or the next one counts
 some-more : (a x : ℕ) (q : Bool) → x ≡ one-if q → ltb 0 (a + x) ≡ ltb 0 a || q
@@ -127,22 +128,29 @@ some-more (suc a) x q e = lt-ltb 0 (suc a + x) (omega arith) ∙ sym (rw (lt-ltb
 pub long-as : (f : ℕ → ℕ) (n k : ℕ) (l : List ℕ) → l ≡ tab k f → n ≡ k → length l ≡ n
 long-as f n k l e c = ap length e ∙ length-tab k f ∙ sym c
 
+-- the shares at duty i
+rated-at :
+    {s : Sharing} (rate rest : List ℕ) → Rated s rate rest → (i : ℕ) → i < dutyCount s
+    → (getD rate i 0 ≡ shareOf s i / dutyOf s i .period) × (getD rest i 0 ≡ shareOf s i % dutyOf s i .period)
+rated-at {s} rate rest r i l = (
+  rw (r .rates) (getD-tab (dutyCount s) (λ j. shareOf s j / dutyOf s j .period) 0 i l),
+  rw (r .rests) (getD-tab (dutyCount s) (λ j. shareOf s j % dutyOf s j .period) 0 i l),
+)
+
 module _ {s : Sharing} {b n i next lacking : ℕ} {before whole part units : List ℕ} where
   -- the numbers are in range at duty i: its share is at most T, its need at most one unit more
   pub ready :
       (rate rest : List ℕ) (d : ℕ) → Going s b n before i whole part units next lacking → i < n → Rated s rate rest
       → DutyRanged (dutyOf s i) → d ≡ dutyOf s i .period → s .ticks ≤ mostTicks
-      → (s .ticks ≤ mostTicks) × (d ≤ mostTicks) × (getD rate i 0 ≤ s .ticks) × (getD rest i 0 < d) × (getD whole i 0 ≤ s .ticks + 1) × (getD part i 0 < d)
+      → (s .ticks ≤ mostTicks) × (d ≤ mostTicks) × (getD rate i 0 ≤ s .ticks) × (getD rest i 0 < d) × (getD whole i 0 ≤ s .ticks + 1)
+      × (getD part i 0 < d)
   ready rate rest d g l r h e t =
       let l′ : i < dutyCount s = omega (arith, g .count) in
       let p : 0 < dutyOf s i .period = h .period-least in
       let share : shareOf s i / dutyOf s i .period ≤ s .ticks =
       div-le-of-le-mul (dutyOf s i .period) (omega (arith, mul-le-mul-left (s .ticks) (h .service-most))) in
-      let x : getD rate i 0 ≡ shareOf s i / dutyOf s i .period =
-      rw (r .rates) (getD-tab (dutyCount s) (λ j. shareOf s j / dutyOf s j .period) 0 i l′) in
-      let y : getD rest i 0 ≡ shareOf s i % dutyOf s i .period =
-      rw (r .rests) (getD-tab (dutyCount s) (λ j. shareOf s j % dutyOf s j .period) 0 i l′) in
-      rw (e, x, y, turned-here (g .wholes) l, turned-here (g .parts) l)
+      let x = rated-at rate rest r i l′ in
+      rw (e, x .0, x .1, turned-here (g .wholes) l, turned-here (g .parts) l)
       (t, h .period-most, share, mod-lt (shareOf s i) p, whole-most s i l′ b p (h .service-most), mod-lt (getD (needsAt s b) i 0) p)
 
   -- the turn by what stands in the lists is SA2's
@@ -151,12 +159,12 @@ module _ {s : Sharing} {b n i next lacking : ℕ} {before whole part units : Lis
       → d ≡ dutyOf s i .period → cut ≡ cutAt s b
       → (let c = chosenBy (s .ticks) (getD whole i 0) (getD part i 0) i cut in
       let need = nextBy d (getD rate i 0) (getD rest i 0) (getD part i 0) c in
-      u ≡ getD whole i 0 + one-if c - 1 → w ≡ need / d → p ≡ need % d → l ≡ one-if (eqb (getD whole i 0 + one-if c) 0) → Took s (needsAt s b) i u w p l)
+      u ≡ getD whole i 0 + one-if c - 1 → w ≡ need / d → p ≡ need % d → l ≡ one-if (eqb (getD whole i 0 + one-if c) 0)
+      → Took s (needsAt s b) i u w p l)
   turn-taken rate rest d cut u w p l g h r e f =
       let h′ : i < dutyCount s = omega (arith, g .count) in
-      let rate-is : getD rate i 0 ≡ shareOf s i / d = rw (r .rates, e) (getD-tab (dutyCount s) (λ j. shareOf s j / dutyOf s j .period) 0 i h′) in
-      let rest-is : getD rest i 0 ≡ shareOf s i % d = rw (r .rests, e) (getD-tab (dutyCount s) (λ j. shareOf s j % dutyOf s j .period) 0 i h′) in
-      took s (needsAt s b) i d _ _ _ _ cut u w p l h′ e rate-is rest-is (turned-here (g .wholes) h) (turned-here (g .parts) h) f
+      let x = rated-at rate rest r i h′ in
+      took s (needsAt s b) i d _ _ _ _ cut u w p l h′ e (x .0 ∙ rw e) (x .1 ∙ rw e) (turned-here (g .wholes) h) (turned-here (g .parts) h) f
 
   -- one duty more
   pub going-more :
@@ -192,7 +200,7 @@ module _ {s : Sharing} {b n i next lacking : ℕ} {before whole part units : Lis
         sum = g .sum ∙ ap (λ (k : ℕ). sumTo k (wholesOf s (b + 1))) e;
       }
 
-  pub going-lacked : Going s b n before i whole part units next lacking → n ≤ i → ltb 0 lacking ≡ any (lacks s (needsAt s b)) (dutyCount s)
+  pub going-lacked : Going s b n before i whole part units next lacking → n ≤ i → ltb 0 lacking ≡ lackAt s b
   going-lacked g l = let e : i ≡ dutyCount s = omega (arith, g .within, g .count) in g .lacked ∙ ap (any (lacks s (needsAt s b))) e
 
   pub going-written : Going s b n before i whole part units next lacking → n ≤ i → units ≡ over (allotments s b) before

@@ -1,39 +1,20 @@
-// Steps 1, 2 and 4 of SA2 for all duties, block after block. Each duty's share and need stand in four lent lists of one entry for each duty:
-// whole units (`rate`, `whole`) and the part of a unit (`rest`, `part`), the need's whole raised by 1.
+// Steps 1, 2 and 4 of SA2 for all duties, block after block. Each duty's share and need stand in four lent lists of one entry for each
+// duty: whole units (`rate`, `whole`) and the part of a unit (`rest`, `part`), the need's whole raised by 1.
 ghost use mathlib.Core.Path.{_≡_};
-ghost use Prim.Native.Nat.{_+_, _*_, _/_, _%_, _≤_, _<_};
+ghost use Prim.Native.Nat.{_+_, _≤_};
 ghost use lib.ListN.{length};
-ghost use Rattle.laws.specs.Search.{any};
 ghost use Rattle.laws.specs.Lists.{over};
-ghost use Rattle.paper.specs.Bytes.{small, mostTicks};
-ghost use Rattle.paper.specs.Sa2.{dutyCount, needsAt, free, allotments};
+ghost use Rattle.paper.specs.Limits.{mostEngines, mostDuties};
+ghost use Rattle.paper.specs.Sa2.{allotments};
 ghost use Rattle.duty_lists.specs.Sliceable.{Sliceable};
-ghost use Rattle.share_laws.specs.Short.{lacks, short};
 ghost use Rattle.share_laws.specs.Cut.{cutAt};
-ghost use Rattle.share_block.specs.Paced.{sharingBy, Lent, Rated, Needed, Paced};
+ghost use Rattle.share_block.specs.Paced.{sharingBy, Lent, Rated, Needed, Paced, freeAt, lackAt, shortAt};
 use duty_lists::duty_at;
-use paper::Duty;
 use share_turn::one_if;
 use share_turn::room_in_block;
 use share_turn::take_turn;
 use share_turn::wants_more;
-
-// A duty's share of a block: whole units, and the part of a unit in D-ths.
-struct Share {
-    rate: u32,
-    rest: u32,
-}
-
-// "T * C / D = N + F". The whole units are at most T, since C is at most D.
-fn share_of(t: u32, x: Duty) -> Share
-    requires { ⌜ (t ≤ mostTicks) × (x .period ≤ mostTicks) × (x .service ≤ x .period) × (0 < x .period) ⌝ }
-    ensures { λ r. ⌜ (r .rate ≡ t * x .service / x .period) × (r .rest ≡ t * x .service % x .period) × (r .rate ≤ t) ⌝ }
-{
-    let share = t as u64 * x.service as u64;
-    let rate = (share / x.period as u64) as u32;
-    let rest = (share % x.period as u64) as u32;
-    Share { rate, rest }
-}
+use slices::share_of;
 
 // The duties' shares, and their needs before the first block, for so many engines (which only the contract names). The answer is the sum of
 // the needs' whole units, each raised by 1.
@@ -48,25 +29,27 @@ pub fn begin(
     part: &mut [u32],
 ) -> u32
     requires { ⌜ Sliceable t (now services) (now periods) × Lent (now services) (now rate) (now rest) (now whole) (now part) ⌝ }
-    ensures { λ r. ⌜ Rated (sharingBy t engines (now (services .entry)) (now (periods .entry))) (now (rate .exit)) (now (rest .exit)) ⌝ }
-    ensures { λ r. ⌜ Paced (sharingBy t engines (now (services .entry)) (now (periods .entry))) 0 (now (whole .exit)) (now (part .exit)) r ⌝ }
+    ensures { λ r. ⌜ Rated (sharingBy t engines (now (services .entry)) (now (periods .entry)))
+        (now (rate .exit)) (now (rest .exit)) ⌝ }
+    ensures { λ r. ⌜ Paced (sharingBy t engines (now (services .entry)) (now (periods .entry))) 0
+        (now (whole .exit)) (now (part .exit)) r ⌝ }
 {
     let mut total = 0;
     let mut i = 0;
     while i < services.len() {
         let share = share_of(t, duty_at(services, periods, i));
-        rate[i] = share.rate;
+        rate[i] = share.units;
         rest[i] = share.rest;
-        whole[i] = share.rate + 1;
+        whole[i] = share.units + 1;
         part[i] = share.rest;
-        total += share.rate + 1;
+        total += share.units + 1;
         i += 1;
     }
     total
 }
 
-// Step 2 of a block, the one of number `block` (which only the contract names, with the engines): the cut, before which the duties that want
-// one of the free units are chosen. It ends where so many have wanted one.
+// Step 2 of a block, the one of number `block` (which only the contract names, with the engines): the cut, before which the duties that
+// want one of the free units are chosen. It ends where so many have wanted one.
 fn find_cut(
     t: u32,
     engines: u32,
@@ -77,9 +60,10 @@ fn find_cut(
     part: &[u32],
     left: u32,
 ) -> u32
-    requires { ⌜ Sliceable t (now services) (now periods) × Needed (sharingBy t engines (now services) (now periods)) block (now whole) (now part) ⌝ }
-    requires { ⌜ left ≡ free (sharingBy t engines (now services) (now periods)) (needsAt (sharingBy t engines (now services) (now periods)) block) ⌝ }
-    ensures { λ r. ⌜ (r ≡ cutAt (sharingBy t engines (now (services .entry)) (now (periods .entry))) block) × (r ≤ small .mostDuties) ⌝ }
+    requires { ⌜ Sliceable t (now services) (now periods)
+        × Needed (sharingBy t engines (now services) (now periods)) block (now whole) (now part) ⌝ }
+    requires { ⌜ left ≡ freeAt (sharingBy t engines (now services) (now periods)) block ⌝ }
+    ensures { λ r. ⌜ (r ≡ cutAt (sharingBy t engines (now (services .entry)) (now (periods .entry))) block) × (r ≤ mostDuties) ⌝ }
 {
     let mut wanting = 0;
     let mut i = 0;
@@ -115,9 +99,11 @@ pub fn share_by_cut(
     requires { ⌜ Rated (sharingBy t engines (now services) (now periods)) (now rate) (now rest) ⌝ }
     requires { ⌜ Needed (sharingBy t engines (now services) (now periods)) block (now whole) (now part) ⌝ }
     requires { ⌜ cut ≡ cutAt (sharingBy t engines (now services) (now periods)) block ⌝ }
-    ensures { λ r. ⌜ Paced (sharingBy t engines (now (services .entry)) (now (periods .entry))) (block + 1) (now (whole .exit)) (now (part .exit)) (r .total) ⌝ }
-    ensures { λ r. ⌜ r .lacking ≡ any (lacks (sharingBy t engines (now (services .entry)) (now (periods .entry))) (needsAt (sharingBy t engines (now (services .entry)) (now (periods .entry))) block)) (dutyCount (sharingBy t engines (now (services .entry)) (now (periods .entry)))) ⌝ }
-    ensures { λ r. ⌜ now (units .exit) ≡ over (allotments (sharingBy t engines (now (services .entry)) (now (periods .entry))) block) (now (units .entry)) ⌝ }
+    ensures { λ r. ⌜ Paced (sharingBy t engines (now (services .entry)) (now (periods .entry))) (block + 1)
+        (now (whole .exit)) (now (part .exit)) (r .total) ⌝ }
+    ensures { λ r. ⌜ r .lacking ≡ lackAt (sharingBy t engines (now (services .entry)) (now (periods .entry))) block ⌝ }
+    ensures { λ r. ⌜ now (units .exit)
+        ≡ over (allotments (sharingBy t engines (now (services .entry)) (now (periods .entry))) block) (now (units .entry)) ⌝ }
 {
     let mut next = 0;
     let mut lacking = 0;
@@ -167,13 +153,17 @@ pub fn share_block(
     total: u32,
     units: &mut [u32],
 ) -> Shared
-    requires { ⌜ Sliceable t (now services) (now periods) × (engines ≤ small .mostEngines) × (length (now services) ≤ length (now units)) ⌝ }
+    requires { ⌜ Sliceable t (now services) (now periods) × (engines ≤ mostEngines)
+        × (length (now services) ≤ length (now units)) ⌝ }
     requires { ⌜ Rated (sharingBy t engines (now services) (now periods)) (now rate) (now rest) ⌝ }
     requires { ⌜ Paced (sharingBy t engines (now services) (now periods)) block (now whole) (now part) total ⌝ }
-    ensures { λ r. ⌜ Paced (sharingBy t engines (now (services .entry)) (now (periods .entry))) (block + 1) (now (whole .exit)) (now (part .exit)) (r .total) ⌝ }
-    ensures { λ r. ⌜ r .short ≡ short (sharingBy t engines (now (services .entry)) (now (periods .entry))) (needsAt (sharingBy t engines (now (services .entry)) (now (periods .entry))) block) ⌝ }
-    ensures { λ r. ⌜ now (units .exit) ≡ over (allotments (sharingBy t engines (now (services .entry)) (now (periods .entry))) block) (now (units .entry)) ⌝ }
-    ensures { λ r. ⌜ (r .cut ≡ cutAt (sharingBy t engines (now (services .entry)) (now (periods .entry))) block) × (r .cut ≤ small .mostDuties) ⌝ }
+    ensures { λ r. ⌜ Paced (sharingBy t engines (now (services .entry)) (now (periods .entry))) (block + 1)
+        (now (whole .exit)) (now (part .exit)) (r .total) ⌝ }
+    ensures { λ r. ⌜ r .short ≡ shortAt (sharingBy t engines (now (services .entry)) (now (periods .entry))) block ⌝ }
+    ensures { λ r. ⌜ now (units .exit)
+        ≡ over (allotments (sharingBy t engines (now (services .entry)) (now (periods .entry))) block) (now (units .entry)) ⌝ }
+    ensures { λ r. ⌜ (r .cut ≡ cutAt (sharingBy t engines (now (services .entry)) (now (periods .entry))) block)
+        × (r .cut ≤ mostDuties) ⌝ }
 {
     let room = room_in_block(t, engines, services.len() as u32, total);
     let cut = find_cut(t, engines, services, periods, block, whole, part, room.free);

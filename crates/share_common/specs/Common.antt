@@ -1,6 +1,5 @@
 -- The common multiple on the way: what is known of the periods, what the duties need over a common multiple, and what the blocks come to.
 use Prim.Native.Nat.{ℕ, _*_, _/_, _<_, _∣_}
-use mathlib.Core.Path.{_≡_}
 use mathlib.Core.List.{List}
 use lib.ListN.{length, getD}
 use Rattle.laws.specs.Sum.{sumTo}

@@ -2,22 +2,19 @@
 ghost use mathlib.Core.Path.{_≡_};
 ghost use Prim.Native.Nat.{_*_, _/_, _≤_, _<_};
 ghost use lib.Dec.{ltb};
-ghost use lib.ListN.{length, getD};
+ghost use lib.ListN.{length};
 ghost use Rattle.laws.specs.Choice.{pick};
 ghost use Rattle.laws.specs.Divisor.{lcm, lcmOf};
-ghost use Rattle.paper.specs.Bytes.{small, mostTicks};
+ghost use Rattle.paper.specs.Limits.{mostEngines, mostTicks, mostShareBlocks};
 ghost use Rattle.paper.specs.Wanted.{dutiesOf};
 ghost use Rattle.paper.specs.Sa2.{sharing};
-ghost use Rattle.paper.specs.Shares.{mostShareBlocks};
 ghost use Rattle.duty_lists.specs.Sliceable.{Sliceable};
 ghost use Rattle.share_common.specs.Common.{Positive, Divided, loadOver, blocksOf, blocksAs};
 use duty_lists::duty_at;
 use paper::Duty;
 use paper::Refusal;
+use paper::limits::MOST_SHARE_BLOCKS;
 use slices::gcd_of;
-
-// The most blocks that a plan of shares may have.
-const MOST_BLOCKS: u32 = 4096;
 
 // The blocks of a plan of shares; or 22, or 7.
 pub enum BlockCount {
@@ -33,12 +30,12 @@ fn multiple_of(a: u32, b: u32) -> u64
     (a / gcd_of(a, b)) as u64 * b as u64
 }
 
-// The least common multiple of the periods; 0 where it is more than 4,096 blocks.
+// The least common multiple of the periods; 0 where it is more blocks than a plan may have.
 fn common_of(t: u32, periods: &[u32]) -> u32
     requires { ⌜ (1 ≤ t) × (t ≤ mostTicks) × Positive (now periods) ⌝ }
     ensures { λ r. ⌜ r ≡ pick (ltb (mostShareBlocks * t) (lcmOf (now (periods .entry)))) 0 (lcmOf (now (periods .entry))) ⌝ }
 {
-    let most = MOST_BLOCKS * t;
+    let most = MOST_SHARE_BLOCKS * t;
     let mut common: u32 = 1;
     let mut i = 0;
     while i < periods.len() {
@@ -62,7 +59,7 @@ fn load_of(x: Duty, ticks: u32) -> u64
 
 // Whether the duties need more than the engines have, over a common multiple of the periods.
 fn is_overload(t: u32, engines: u32, services: &[u32], periods: &[u32], common: u32) -> bool
-    requires { ⌜ Sliceable t (now services) (now periods) × (engines ≤ small .mostEngines) ⌝ }
+    requires { ⌜ Sliceable t (now services) (now periods) × (engines ≤ mostEngines) ⌝ }
     ensures { λ r. ⌜ r ≡ ltb (engines * common) (loadOver (dutiesOf (now (services .entry)) (now (periods .entry))) common) ⌝ }
 {
     let mut load: u64 = 0;
@@ -76,7 +73,8 @@ fn is_overload(t: u32, engines: u32, services: &[u32], periods: &[u32], common: 
 
 // The blocks up to the common multiple: 22 where they are too many, then 7 where the duties need more than the engines have.
 pub fn block_count(t: u32, engines: u32, services: &[u32], periods: &[u32]) -> BlockCount
-    requires { ⌜ Sliceable t (now services) (now periods) × Divided t (now periods) × (1 ≤ length (now periods)) × (engines ≤ small .mostEngines) ⌝ }
+    requires { ⌜ Sliceable t (now services) (now periods) × Divided t (now periods) × (1 ≤ length (now periods))
+        × (engines ≤ mostEngines) ⌝ }
     ensures { λ r. ⌜ blocksAs r ≡ blocksOf (sharing t engines (dutiesOf (now (services .entry)) (now (periods .entry)))) ⌝ }
 {
     let common = common_of(t, periods);

@@ -1,5 +1,5 @@
--- The cuts kept in a list, each at its block's number: one more does not change those before it. Two passes one after the other keep the cuts
--- of all blocks, since the second leaves what the first has kept.
+-- The cuts kept in a list, each at its block's number: one more does not change those before it. Two passes one after the other keep the
+-- cuts of all blocks, since the second leaves what the first has kept.
 -- Assumes nothing.
 use Prim.Native.Nat.{ℕ, _+_, _≤_, _<_}
 use mathlib.Core.Path.{_≡_, refl, _∙_}
@@ -16,8 +16,8 @@ pub kept-none : (s : Sharing) (from : ℕ) (cuts : List ℕ) → CutsKept s from
 kept-none s from cuts = record { has = λ b x y. absurd (omega arith); earlier = λ b h. refl }
 
 pub kept-more :
-    {s : Sharing} {from b : ℕ} {before cuts : List ℕ} (cut : ℕ) → CutsKept s from b before cuts → from ≤ b → b < length cuts → cut ≡ cutAt s b
-    → CutsKept s from (b + 1) before (set cuts b cut)
+    {s : Sharing} {from b : ℕ} {before cuts : List ℕ} (cut : ℕ) → CutsKept s from b before cuts → from ≤ b → b < length cuts
+    → cut ≡ cutAt s b → CutsKept s from (b + 1) before (set cuts b cut)
 kept-more {s} {from} {b} {before} {cuts} cut k h l e =
     record {
       has = λ j x y.

@@ -1,5 +1,5 @@
--- A pass over the blocks on its way. Each block writes its units over the same front of the list, so whatever is laid there next stands as if
--- it were laid over the list as it was lent: what the last block gave is all that is left of them.
+-- A pass over the blocks on its way. Each block writes its units over the same front of the list, so whatever is laid there next stands as
+-- if it were laid over the list as it was lent: what the last block gave is all that is left of them.
 -- Assumes nothing.
 use Prim.Native.Nat.{ℕ, _+_, _≤_, _<_}
 use mathlib.Core.Path.{_≡_, refl, sym, _∙_}
@@ -11,12 +11,11 @@ use Rattle.laws.specs.Search.{first}
 use Rattle.laws.specs.Lists.{over}
 use Rattle.laws.proofs.Cases.{lt-or-le}
 use Rattle.laws.proofs.Search.{Clear, first-is, first-none}
-use Rattle.laws.proofs.Lists.{length-tab}
 use Rattle.laws.proofs.Turned.{over-again}
 use Rattle.paper.specs.Sa2.{Sharing, dutyCount, allotments}
 use Rattle.share_laws.proofs.OnLine.{allotments-length}
-use Rattle.share_block.specs.Paced.{Paced}
-use Rattle.share_pass.specs.Passing.{shortAt, Passed}
+use Rattle.share_block.specs.Paced.{Paced, shortAt}
+use Rattle.share_pass.specs.Passing.{Passed}
 
 -- the blocks from `from` to before b are passed
 pub record Passing (s : Sharing) (from to : ℕ) (before : List ℕ) (b total : ℕ) (whole part units : List ℕ) : Type 0 where
@@ -85,7 +84,9 @@ module _ {s : Sharing} {from to b total : ℕ} {before whole part units : List �
 
 -- ---- what a pass has told
 
-module _ {s : Sharing} {from to block total : ℕ} {before whole part units : List ℕ} (p : Passed s from to before block total whole part units) where
+module _
+    {s : Sharing} {from to block total : ℕ} {before whole part units : List ℕ}
+    (p : Passed s from to before block total whole part units) where
   -- no block up to where it stopped comes short, if none did before it began
   pub passed-clear : Clear (shortAt s) from → Clear (shortAt s) block
   passed-clear c k h = lt-or-le k from (c k) (λ l. p .clear k l h)

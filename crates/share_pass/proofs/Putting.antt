@@ -5,11 +5,12 @@ use mathlib.Core.Path.{_≡_, sym, ap, _∙_}
 use mathlib.Core.List.{List, _++_}
 use native.Mathlib.Omega.{arith}
 use lib.ListN.{length, getD, take, drop}
-use Rattle.laws.specs.Lists.{tab, flat, over}
+use Rattle.laws.specs.Lists.{tab, over}
 use Rattle.laws.proofs.Lists.{length-tab, getD-tab, length-flat}
 use Rattle.laws.proofs.Listing.{Listing, listing-start, listing-room, listing-more, listing-end}
 use Rattle.paper.specs.Sa2.{Sharing, dutyCount, allotments}
 use Rattle.share_block.specs.Paced.{Needed}
+use Rattle.share_pass.specs.Passing.{allotted}
 use Rattle.share_laws.proofs.OnLine.{allotments-length}
 
 -- the numbers of the blocks
@@ -37,8 +38,8 @@ module _ {s : Sharing} {blocks b at : ℕ} {before whole part list : List ℕ} w
       → at + n ≤ length list
   putting-room n p h e r =
       let h′ : b < length (numbers blocks) = rw (length-tab blocks (λ k. k)) h in
-      let all : length (flat (allotments s) (numbers blocks)) ≡ n * blocks =
-      length-flat (allotments s) n (λ k. allotments-length s k ∙ sym e) (numbers blocks) ∙ ap (λ (k : ℕ). n * k) (length-tab blocks (λ k. k)) in
+      let each = length-flat (allotments s) n (λ k. allotments-length s k ∙ sym e) (numbers blocks) in
+      let all : length (allotted s blocks) ≡ n * blocks = each ∙ ap (λ (k : ℕ). n * k) (length-tab blocks (λ k. k)) in
       omega (arith, listing-room 0 (allotments s b) (next-is s blocks b h) (p .listing) h′, allotments-length s b, all, p .listing .long)
 
   pub putting-more :
@@ -55,5 +56,5 @@ module _ {s : Sharing} {blocks b at : ℕ} {before whole part list : List ℕ} w
       }
 
   pub putting-end :
-      Putting s blocks before b at whole part list → blocks ≤ b → list ≡ over (flat (allotments s) (numbers blocks)) before
+      Putting s blocks before b at whole part list → blocks ≤ b → list ≡ over (allotted s blocks) before
   putting-end p h = listing-end (p .listing) (rw (length-tab blocks (λ k. k)) h) .1

@@ -1,16 +1,15 @@
-// SA2 over many blocks: up to the first that comes short, with the cuts kept; or all of them into a list, by their cuts. And who has a place
-// of one block's line.
+// SA2 over many blocks: up to the first that comes short, with the cuts kept; or all of them into a list, by their cuts. And who has a
+// place of one block's line.
 ghost use mathlib.Core.Path.{_≡_};
 ghost use Prim.Native.Nat.{_*_, _≤_};
 ghost use lib.ListN.{length};
-ghost use Rattle.laws.specs.Lists.{over, tab, flat};
-ghost use Rattle.paper.specs.Bytes.{small};
-ghost use Rattle.paper.specs.Sa2.{allotments};
+ghost use Rattle.laws.specs.Lists.{over};
+ghost use Rattle.paper.specs.Limits.{mostEngines, mostDuties};
 ghost use Rattle.plan_laws.proofs.Line.{onLine};
 ghost use Rattle.duty_lists.specs.Sliceable.{Sliceable};
 ghost use Rattle.share_laws.specs.Cut.{HasCuts};
 ghost use Rattle.share_block.specs.Paced.{sharingBy, Rated, Needed, Paced};
-ghost use Rattle.share_pass.specs.Passing.{Passed, CutsKept};
+ghost use Rattle.share_pass.specs.Passing.{Passed, CutsKept, allotted};
 use paper::Held;
 use share_block::share_block;
 use share_block::share_by_cut;
@@ -21,8 +20,8 @@ pub struct Reached {
     pub total: u32,
 }
 
-// Shares out the blocks from `from` to before `to`, up to the first that comes short. What the last of them gives stays in `units`, and each
-// one's cut in `cuts`.
+// Shares out the blocks from `from` to before `to`, up to the first that comes short. What the last of them gives stays in `units`, and
+// each one's cut in `cuts`.
 pub fn pass_blocks(
     t: u32,
     engines: u32,
@@ -38,11 +37,14 @@ pub fn pass_blocks(
     units: &mut [u32],
     cuts: &mut [u8],
 ) -> Reached
-    requires { ⌜ Sliceable t (now services) (now periods) × (engines ≤ small .mostEngines) × (length (now services) ≤ length (now units)) × (from ≤ to) × (to ≤ length (now cuts)) ⌝ }
+    requires { ⌜ Sliceable t (now services) (now periods) × (engines ≤ mostEngines)
+        × (length (now services) ≤ length (now units)) × (from ≤ to) × (to ≤ length (now cuts)) ⌝ }
     requires { ⌜ Rated (sharingBy t engines (now services) (now periods)) (now rate) (now rest) ⌝ }
     requires { ⌜ Paced (sharingBy t engines (now services) (now periods)) from (now whole) (now part) total ⌝ }
-    ensures { λ r. ⌜ Passed (sharingBy t engines (now (services .entry)) (now (periods .entry))) from to (now (units .entry)) (r .block) (r .total) (now (whole .exit)) (now (part .exit)) (now (units .exit)) ⌝ }
-    ensures { λ r. ⌜ CutsKept (sharingBy t engines (now (services .entry)) (now (periods .entry))) from (r .block) (now (cuts .entry)) (now (cuts .exit)) ⌝ }
+    ensures { λ r. ⌜ Passed (sharingBy t engines (now (services .entry)) (now (periods .entry))) from to
+        (now (units .entry)) (r .block) (r .total) (now (whole .exit)) (now (part .exit)) (now (units .exit)) ⌝ }
+    ensures { λ r. ⌜ CutsKept (sharingBy t engines (now (services .entry)) (now (periods .entry))) from
+        (r .block) (now (cuts .entry)) (now (cuts .exit)) ⌝ }
 {
     let mut sum = total;
     let mut b = from;
@@ -91,11 +93,13 @@ pub fn put_blocks(
     part: &mut [u32],
     list: &mut [u32],
 )
-    requires { ⌜ Sliceable t (now services) (now periods) × (blocks ≤ length (now cuts)) × (blocks * length (now services) ≤ length (now list)) ⌝ }
+    requires { ⌜ Sliceable t (now services) (now periods) × (blocks ≤ length (now cuts))
+        × (blocks * length (now services) ≤ length (now list)) ⌝ }
     requires { ⌜ Rated (sharingBy t engines (now services) (now periods)) (now rate) (now rest) ⌝ }
     requires { ⌜ Needed (sharingBy t engines (now services) (now periods)) 0 (now whole) (now part) ⌝ }
     requires { ⌜ HasCuts (sharingBy t engines (now services) (now periods)) 0 blocks (now cuts) ⌝ }
-    ensures { λ r. ⌜ now (list .exit) ≡ over (flat (allotments (sharingBy t engines (now (services .entry)) (now (periods .entry)))) (tab blocks (λ b. b))) (now (list .entry)) ⌝ }
+    ensures { λ r. ⌜ now (list .exit)
+        ≡ over (allotted (sharingBy t engines (now (services .entry)) (now (periods .entry))) blocks) (now (list .entry)) ⌝ }
 {
     let mut at = 0;
     let mut b = 0;
@@ -121,7 +125,7 @@ pub fn put_blocks(
 
 // Who has a place of the line on which a block's units are laid, duty after duty.
 pub fn held_at(units: &[u32], place: u32) -> Held
-    requires { ⌜ length (now units) ≤ small .mostDuties ⌝ }
+    requires { ⌜ length (now units) ≤ mostDuties ⌝ }
     ensures { λ r. ⌜ r ≡ onLine (now (units .entry)) 0 0 place ⌝ }
 {
     let mut left = place;

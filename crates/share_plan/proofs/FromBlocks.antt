@@ -1,17 +1,17 @@
--- Plans of shares once the blocks are known. The first block that comes short is the first that fails (`failing-short`), so the survey tells 23;
--- and a tick's place on the line of its block tells who runs (`schedule-on-line`).
+-- Plans of shares once the blocks are known. The first block that comes short is the first that fails (`failing-short`), so the survey
+-- tells 23; and a tick's place on the line of its block tells who runs (`schedule-on-line`).
 -- Assumes nothing.
 use Prim.Native.Nat.{ℕ, _+_, _*_, _/_, _%_, _≤_, _<_}
-use mathlib.Core.Path.{_≡_, refl, sym, ap, _∙_}
+use mathlib.Core.Path.{_≡_, sym, ap, _∙_}
 use mathlib.Core.List.{List}
 use native.Mathlib.Nat.{mul-le-mul}
 use native.Mathlib.Omega.{arith}
-use lib.ListN.{length, take, drop}
-use lib.Seq.{take-at}
+use lib.ListN.{length, take}
 use borrow.Author.Tests.{lt-ltb, le-ltb}
 use Rattle.laws.specs.Search.{first}
-use Rattle.laws.specs.Lists.{over, tab, flat}
+use Rattle.laws.specs.Lists.{over}
 use Rattle.laws.proofs.Search.{first-le}
+use Rattle.laws.proofs.Writing.{over-front}
 use Rattle.paper.specs.declared.Duty.{Duty}
 use Rattle.paper.specs.declared.Engine.{Engine}
 use Rattle.paper.specs.declared.Refusal.{Refusal}
@@ -19,18 +19,17 @@ use Rattle.paper.specs.declared.ShareReading.{ShareReading}
 use Rattle.paper.specs.declared.SharesTold.{SharesTold}
 use Rattle.paper.specs.declared.SharesTold.the-variants.{Given, Refused as NotGiven}
 use Rattle.paper.specs.Outcome.{Outcome, refused, answer, refusedAs}
-use Rattle.paper.specs.Bytes.{small}
+use Rattle.paper.specs.Limits.{mostDuties, mostShareBlocks}
 use Rattle.paper.specs.Sa2.{Sharing, dutyCount, allotments}
-use Rattle.paper.specs.Shares.{mostShareBlocks, blocks, failing, entriesNeeded, roomy, steady, shareList, readingOfShares, GivesShares}
+use Rattle.paper.specs.Shares.{blocks, failing, entriesNeeded, steady, shareList, readingOfShares, GivesShares}
 use Rattle.plan_laws.proofs.Line.{onLine}
-use Rattle.plan_laws.proofs.Planned.{length-duties}
-use Rattle.duty_lists.proofs.Duties.{duty-is}
+use Rattle.plan_laws.proofs.Planned.{length-duties, duty-is}
 use Rattle.share_laws.proofs.Steps.{InBlocks}
 use Rattle.share_laws.proofs.ShortWhen.{failing-short}
 use Rattle.share_laws.proofs.OnLine.{allotments-length, schedule-on-line}
 use Rattle.share_laws.specs.Cut.{HasCuts}
-use Rattle.share_block.specs.Paced.{sharingBy}
-use Rattle.share_pass.specs.Passing.{shortAt}
+use Rattle.share_block.specs.Paced.{sharingBy, shortAt}
+use Rattle.share_pass.specs.Passing.{allotted}
 use Rattle.share_survey.specs.Looking.{Looked}
 use Rattle.share_plan.specs.AfterCount.{KnownBlocks, listFrom, heldFrom}
 
@@ -46,7 +45,8 @@ gives-list o s rd before after e f g = record { said = rw (e, f); left = rw (e, 
 
 -- the same outcome is given the same
 pub gives-same :
-    {o o′ : Outcome Sharing} {r : SharesTold} {before after : List ℕ} → o ≡ o′ → GivesShares o′ r before after → GivesShares o r before after
+    {o o′ : Outcome Sharing} {r : SharesTold} {before after : List ℕ} → o ≡ o′ → GivesShares o′ r before after
+    → GivesShares o r before after
 gives-same e g = rw e g
 
 module _ {t m : ℕ} {ss ps : List ℕ} {n : ℕ} (k : KnownBlocks t m ss ps n) where
@@ -71,11 +71,11 @@ module _ {t m : ℕ} {ss ps : List ℕ} {n : ℕ} (k : KnownBlocks t m ss ps n) 
       }
 
   -- there are few of them
-  pub needed-most : n * length ss ≤ mostShareBlocks * small .mostDuties
+  pub needed-most : n * length ss ≤ mostShareBlocks * mostDuties
   needed-most = mul-le-mul (k .few) (k .sliceable .paired .few)
 
   -- the list is that of the blocks
-  pub list-is : flat (allotments s) (tab n (λ b. b)) ≡ shareList s
+  pub list-is : allotted s n ≡ shareList s
   unfolding shareList
   list-is = rw (k .blocks-are)
 
@@ -88,11 +88,9 @@ module _ {t m : ℕ} {ss ps : List ℕ} {n : ℕ} (k : KnownBlocks t m ss ps n) 
 
   module _ (b : ℕ) (found : b ≡ first (shortAt s) n) where
     pub bad-steady : b < n → steady s ≡ refused 23 b
-    unfolding steady
     bad-steady l = rw (failing-is b found, lt-ltb b (blocks s) (omega (arith, k .blocks-are)))
 
     pub good-steady : n ≤ b → steady s ≡ answer s
-    unfolding steady
     good-steady l = rw (failing-is b found, le-ltb b (blocks s) (omega (arith, k .blocks-are)))
 
   -- where it finds none, it has come to the end
@@ -107,11 +105,9 @@ module _ {t m : ℕ} {ss ps : List ℕ} {n : ℕ} (k : KnownBlocks t m ss ps n) 
 
   module _ (room : ℕ) where
     pub list-short : room < n * length ss → listFrom room s ≡ refused 8 (n * length ss)
-    unfolding roomy
     list-short l = rw (needed-is, lt-ltb room (entriesNeeded s) (omega (arith, needed-is)))
 
     pub list-roomy : n * length ss ≤ room → listFrom room s ≡ steady s
-    unfolding roomy
     list-roomy l = rw (le-ltb room (entriesNeeded s) (omega (arith, needed-is)))
 
   -- ---- the question
@@ -119,10 +115,8 @@ module _ {t m : ℕ} {ss ps : List ℕ} {n : ℕ} (k : KnownBlocks t m ss ps n) 
   -- where all blocks are good, the units of the one that was kept are in front
   pub kept-units :
       {keep b : ℕ} {before after cuts : List ℕ} → Looked s n keep before b after cuts → n ≤ b → take (length ss) after ≡ allotments s keep
-  unfolding over
   kept-units {keep} {b} {before} {after} l h =
-      let end = looked-end l h in
-      rw (l .kept end) (take-at (allotments s keep) (drop (length (allotments s keep)) before) (length ss) (allotments-length s keep ∙ count-is))
+      rw (l .kept (looked-end l h)) (over-front (allotments s keep) before (length ss) (allotments-length s keep ∙ count-is))
 
   module _ (e : Engine) (tick : ℕ) where
     pub held-none : steady s ≡ answer s → m ≤ e .0 → heldFrom e tick s ≡ refused 18 0

@@ -1,9 +1,8 @@
--- Both calls up to the blocks. What tests 1 to 5 refuse is not shared out, nor what 22 and 7 refuse; past them the block length is the periods'
--- greatest common divisor, which divides them, and the blocks are those up to their common multiple.
+-- Both calls up to the blocks. What tests 1 to 5 refuse is not shared out, nor what 22 and 7 refuse; past them the block length is the
+-- periods' greatest common divisor, which divides them, and the blocks are those up to their common multiple.
 -- Assumes nothing.
-use Prim.Native.Nat.{ℕ, _≤_, _<_, _∣_}
+use Prim.Native.Nat.{ℕ, _≤_, _<_}
 use mathlib.Core.Path.{_≡_, refl, sym, ap, _∙_}
-use mathlib.Core.Bool.{true, false}
 use mathlib.Core.List.{List}
 use native.Mathlib.Omega.{arith}
 use lib.Dec.{ltb}
@@ -12,7 +11,6 @@ use borrow.Author.Tests.{ltb-false}
 use Rattle.laws.specs.Divisor.{gcdOf}
 use Rattle.laws.proofs.Cases.{by-cases}
 use Rattle.laws.proofs.Divisor.{gcdOf-divides}
-use Rattle.paper.specs.declared.Duty.{Duty}
 use Rattle.paper.specs.declared.Engine.{Engine}
 use Rattle.paper.specs.declared.Refusal.{Refusal}
 use Rattle.paper.specs.declared.Verdict.{Verdict}
@@ -20,10 +18,10 @@ use Rattle.paper.specs.declared.Verdict.the-variants.{Refused as NotDone}
 use Rattle.paper.specs.Outcome.{refused, answer, refusedAs, verdictAs}
 use Rattle.paper.specs.Wanted.{Wanted, dutySet, taken}
 use Rattle.paper.specs.Sa2.{Sharing, sharing}
-use Rattle.paper.specs.Shares.{mostShareBlocks, blocks, overloaded, sharable, shared, sharePlan, shareQuestion}
+use Rattle.paper.specs.Limits.{mostShareBlocks}
+use Rattle.paper.specs.Shares.{blocks, overloaded, sharable, shared, sharePlan, shareQuestion}
 use Rattle.paper.proofs.Outcomes.{answered, answer-one, then-refused}
 use Rattle.plan_laws.proofs.TakenWhen.{Taken, takes}
-use Rattle.plan_laws.proofs.Planned.{length-duties}
 use Rattle.duty_lists.proofs.AfterTests.{block-is, sliceable}
 use Rattle.share_laws.proofs.Blocks.{sharingOf, blocks-some, taken-some, taken-in-blocks}
 use Rattle.share_common.specs.Common.{Divided, blocksOf}
@@ -103,21 +101,17 @@ module _ (x : Wanted) where
     known-blocks k e = measured-some k e .0
 
     pub none-listed : (why : Refusal) → r ≡ Refused why → (room : ℕ) → sharePlan x room ≡ refusedAs why
-    unfolding sharePlan
     none-listed why e room = rw (measured-none why e)
 
     pub none-asked : (why : Refusal) → r ≡ Refused why → (q : Engine) (k : ℕ) → shareQuestion x q k ≡ refusedAs why
-    unfolding shareQuestion
     none-asked why e q k = rw (measured-none why e)
 
     pub listed-from :
         (k : Measure) → r ≡ Known k → (room : ℕ)
         → sharePlan x room ≡ listFrom room (sharingBy (k .ticks) (x .engines) (x .services) (x .periods))
-    unfolding sharePlan
     listed-from k e room = rw (measured-some k e .1)
 
     pub asked-from :
         (k : Measure) → r ≡ Known k → (q : Engine) (tick : ℕ)
         → shareQuestion x q tick ≡ heldFrom q tick (sharingBy (k .ticks) (x .engines) (x .services) (x .periods))
-    unfolding shareQuestion
     asked-from k e q tick = rw (measured-some k e .1)

@@ -2,15 +2,14 @@
 use Prim.Native.Nat.{ℕ, _≤_, _<_, _∣_}
 use mathlib.Core.Path.{_≡_}
 use mathlib.Core.List.{List}
-use lib.Dec.{ltb}
 use lib.ListN.{length, getD}
-use Rattle.laws.specs.Choice.{pick}
 use Rattle.paper.specs.declared.Engine.{Engine}
 use Rattle.paper.specs.declared.Held.{Held}
-use Rattle.paper.specs.Outcome.{Outcome, refused, answer, andThen, refusedAs}
-use Rattle.paper.specs.Bytes.{small}
+use Rattle.paper.specs.Outcome.{Outcome, answer, andThen, refusedAs}
+use Rattle.paper.specs.Limits.{mostEngines, mostShareBlocks}
+use Rattle.paper.specs.Answers.{ofEngine}
 use Rattle.paper.specs.Sa2.{Sharing}
-use Rattle.paper.specs.Shares.{blocks, shareSchedule, mostShareBlocks, shared, roomy, steady}
+use Rattle.paper.specs.Shares.{blocks, shareSchedule, shared, roomy, steady}
 use Rattle.duty_lists.specs.Sliceable.{Sliceable}
 use Rattle.paper.specs.Wanted.{Wanted}
 use Rattle.share_block.specs.Paced.{sharingBy}
@@ -21,7 +20,7 @@ use Rattle.share_plan.specs.declared.Measured.the-variants.{Known, Refus
 pub record KnownBlocks (t m : ℕ) (ss ps : List ℕ) (n : ℕ) : Type 0 where
   pub sliceable : Sliceable t ss ps
   pub divides : (i : ℕ) → i < length ps → t ∣ getD ps i 0
-  pub engines-most : m ≤ small .mostEngines
+  pub engines-most : m ≤ mostEngines
   pub blocks-are : n ≡ blocks (sharingBy t m ss ps)
   pub some : 0 < n
   pub few : n ≤ mostShareBlocks
@@ -32,7 +31,7 @@ listFrom room s = andThen (roomy room s) steady
 
 -- 23 and 18, else the duty or idle
 abbrev pub heldFrom : Engine → ℕ → Sharing → Outcome Held
-heldFrom e k s = andThen (steady s) (λ p. pick (ltb (e .0) (p .engines)) (answer (shareSchedule p e k)) (refused 18 0))
+heldFrom e k s = andThen (steady s) (λ p. ofEngine (p .engines) e (answer (shareSchedule p e k)))
 
 -- what tests 1 to 5, 22 and 7 come to: a refusal, or the block length and the blocks
 abbrev pub Measures : Wanted → Measured → Type 0

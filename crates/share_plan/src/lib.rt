@@ -1,9 +1,7 @@
 // Plans of shares by SA2: the builder of shares, and the question to its plan. Tests 1 to 5 come first, then 22 and 7; past them the blocks
 // are known.
 ghost use mathlib.Core.Path.{_≡_};
-ghost use Prim.Native.Nat.{_≤_};
 ghost use lib.ListN.{length};
-ghost use Rattle.paper.specs.Bytes.{small};
 ghost use Rattle.paper.specs.Wanted.{wanted};
 ghost use Rattle.paper.specs.Shares.{GivesShares, sharePlan, shareAnswerAs, shareQuestion};
 ghost use Rattle.share_block.specs.Paced.{sharingBy};
@@ -15,6 +13,8 @@ use paper::ShareAnswer;
 use paper::ShareReading;
 use paper::SharesTold;
 use paper::Verdict;
+use paper::limits::MOST_DUTIES;
+use paper::limits::MOST_SHARE_BLOCKS;
 use share_common::BlockCount;
 use share_common::block_count;
 use share_pass::held_at;
@@ -52,8 +52,8 @@ fn measure_blocks(engines: u32, services: &[u32], periods: &[u32]) -> Measured
     }
 }
 
-// The builder of shares from refusal 8 on: the blocks are known. All of them are looked through before one entry is written, and the cuts that
-// were found on the way are what the writing goes by.
+// The builder of shares from refusal 8 on: the blocks are known. All of them are looked through before one entry is written, and the cuts
+// that were found on the way are what the writing goes by.
 fn list_from(
     t: u32,
     engines: u32,
@@ -63,7 +63,9 @@ fn list_from(
     list: &mut [u32],
 ) -> SharesTold
     requires { ⌜ KnownBlocks t engines (now services) (now periods) blocks ⌝ }
-    ensures { λ r. ⌜ GivesShares (listFrom (length (now (list .entry))) (sharingBy t engines (now (services .entry)) (now (periods .entry)))) r (now (list .entry)) (now (list .exit)) ⌝ }
+    ensures { λ r. ⌜ GivesShares
+        (listFrom (length (now (list .entry))) (sharingBy t engines (now (services .entry)) (now (periods .entry)))) r
+        (now (list .entry)) (now (list .exit)) ⌝ }
 {
     let needed = blocks as usize * services.len();
     if list.len() < needed {
@@ -72,8 +74,8 @@ fn list_from(
             place: needed,
         });
     }
-    let mut spare = [0u32; 64];
-    let mut cuts = [0u8; 4096];
+    let mut spare = [0u32; MOST_DUTIES];
+    let mut cuts = [0u8; MOST_SHARE_BLOCKS as usize];
     let failing = survey(
         t,
         engines,
@@ -101,7 +103,8 @@ fn list_from(
 // Builds a plan of shares from services and periods: each duty's units in each block, block by block, into the lent list. The answer tells
 // the entries written, the block length and the blocks; entries past them stay. A refusal writes nothing.
 pub fn build_shares(engines: u32, services: &[u32], periods: &[u32], list: &mut [u32]) -> SharesTold
-    ensures { λ r. ⌜ GivesShares (sharePlan (wanted engines (now (services .entry)) (now (periods .entry))) (length (now (list .entry)))) r (now (list .entry)) (now (list .exit)) ⌝ }
+    ensures { λ r. ⌜ GivesShares (sharePlan (wanted engines (now (services .entry)) (now (periods .entry))) (length (now (list .entry)))) r
+        (now (list .entry)) (now (list .exit)) ⌝ }
 {
     let measured = measure_blocks(engines, services, periods);
     match measured {
@@ -117,8 +120,8 @@ pub fn build_shares(engines: u32, services: &[u32], periods: &[u32], list: &mut 
     }
 }
 
-// The question from refusal 23 on: the blocks are known. The engine keeps the row of its number, so the tick's place on the line of its block
-// tells who runs.
+// The question from refusal 23 on: the blocks are known. The engine keeps the row of its number, so the tick's place on the line of its
+// block tells who runs.
 fn held_from(
     t: u32,
     engines: u32,
@@ -132,8 +135,8 @@ fn held_from(
     ensures { λ r. ⌜ shareAnswerAs r ≡ heldFrom engine tick (sharingBy t engines (now (services .entry)) (now (periods .entry))) ⌝ }
 {
     let block = (tick / t as u64 % blocks as u64) as u32;
-    let mut units = [0u32; 64];
-    let mut cuts = [0u8; 4096];
+    let mut units = [0u32; MOST_DUTIES];
+    let mut cuts = [0u8; MOST_SHARE_BLOCKS as usize];
     let short = survey(
         t,
         engines,

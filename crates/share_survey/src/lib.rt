@@ -1,15 +1,16 @@
-// A plan of shares looked through before anything is written, and then written by the cuts that were found. The four lists of shares and needs
-// stand here, one entry for each duty.
+// A plan of shares looked through before anything is written, and then written by the cuts that were found. The four lists of shares and
+// needs stand here, one entry for each duty.
 ghost use mathlib.Core.Path.{_≡_};
 ghost use Prim.Native.Nat.{_*_, _≤_, _<_};
 ghost use lib.ListN.{length};
-ghost use Rattle.laws.specs.Lists.{over, tab, flat};
-ghost use Rattle.paper.specs.Bytes.{small};
-ghost use Rattle.paper.specs.Sa2.{allotments};
+ghost use Rattle.laws.specs.Lists.{over};
+ghost use Rattle.paper.specs.Limits.{mostEngines};
 ghost use Rattle.duty_lists.specs.Sliceable.{Sliceable};
 ghost use Rattle.share_laws.specs.Cut.{HasCuts};
 ghost use Rattle.share_block.specs.Paced.{sharingBy, Lent, Rated, Paced};
+ghost use Rattle.share_pass.specs.Passing.{allotted};
 ghost use Rattle.share_survey.specs.Looking.{Looked};
+use paper::limits::MOST_DUTIES;
 use share_block::begin;
 use share_pass::pass_blocks;
 use share_pass::put_blocks;
@@ -32,11 +33,12 @@ fn look_on(
     spare: &mut [u32],
     cuts: &mut [u8],
 ) -> u32
-    requires { ⌜ Sliceable t (now services) (now periods) × (engines ≤ small .mostEngines) × (keep < blocks) × (blocks ≤ length (now cuts)) ⌝ }
+    requires { ⌜ Sliceable t (now services) (now periods) × (engines ≤ mostEngines) × (keep < blocks) × (blocks ≤ length (now cuts)) ⌝ }
     requires { ⌜ (length (now services) ≤ length (now units)) × (length (now services) ≤ length (now spare)) ⌝ }
     requires { ⌜ Rated (sharingBy t engines (now services) (now periods)) (now rate) (now rest) ⌝ }
     requires { ⌜ Paced (sharingBy t engines (now services) (now periods)) 0 (now whole) (now part) total ⌝ }
-    ensures { λ r. ⌜ Looked (sharingBy t engines (now (services .entry)) (now (periods .entry))) blocks keep (now (units .entry)) r (now (units .exit)) (now (cuts .exit)) ⌝ }
+    ensures { λ r. ⌜ Looked (sharingBy t engines (now (services .entry)) (now (periods .entry))) blocks keep
+        (now (units .entry)) r (now (units .exit)) (now (cuts .exit)) ⌝ }
 {
     let kept = pass_blocks(
         t,
@@ -90,10 +92,11 @@ fn look_through(
     spare: &mut [u32],
     cuts: &mut [u8],
 ) -> u32
-    requires { ⌜ Sliceable t (now services) (now periods) × (engines ≤ small .mostEngines) × (keep < blocks) × (blocks ≤ length (now cuts)) ⌝ }
+    requires { ⌜ Sliceable t (now services) (now periods) × (engines ≤ mostEngines) × (keep < blocks) × (blocks ≤ length (now cuts)) ⌝ }
     requires { ⌜ Lent (now services) (now rate) (now rest) (now whole) (now part) ⌝ }
     requires { ⌜ (length (now services) ≤ length (now units)) × (length (now services) ≤ length (now spare)) ⌝ }
-    ensures { λ r. ⌜ Looked (sharingBy t engines (now (services .entry)) (now (periods .entry))) blocks keep (now (units .entry)) r (now (units .exit)) (now (cuts .exit)) ⌝ }
+    ensures { λ r. ⌜ Looked (sharingBy t engines (now (services .entry)) (now (periods .entry))) blocks keep
+        (now (units .entry)) r (now (units .exit)) (now (cuts .exit)) ⌝ }
 {
     let total = begin(t, engines, services, periods, rate, rest, whole, part);
     look_on(
@@ -125,15 +128,17 @@ pub fn survey(
     units: &mut [u32],
     cuts: &mut [u8],
 ) -> u32
-    requires { ⌜ Sliceable t (now services) (now periods) × (engines ≤ small .mostEngines) × (keep < blocks) × (length (now services) ≤ length (now units)) × (blocks ≤ length (now cuts)) ⌝ }
-    ensures { λ r. ⌜ Looked (sharingBy t engines (now (services .entry)) (now (periods .entry))) blocks keep (now (units .entry)) r (now (units .exit)) (now (cuts .exit)) ⌝ }
+    requires { ⌜ Sliceable t (now services) (now periods) × (engines ≤ mostEngines) × (keep < blocks)
+        × (length (now services) ≤ length (now units)) × (blocks ≤ length (now cuts)) ⌝ }
+    ensures { λ r. ⌜ Looked (sharingBy t engines (now (services .entry)) (now (periods .entry))) blocks keep
+        (now (units .entry)) r (now (units .exit)) (now (cuts .exit)) ⌝ }
 {
     let n = services.len();
-    let mut rate = [0u32; 64];
-    let mut rest = [0u32; 64];
-    let mut whole = [0u32; 64];
-    let mut part = [0u32; 64];
-    let mut spare = [0u32; 64];
+    let mut rate = [0u32; MOST_DUTIES];
+    let mut rest = [0u32; MOST_DUTIES];
+    let mut whole = [0u32; MOST_DUTIES];
+    let mut part = [0u32; MOST_DUTIES];
+    let mut spare = [0u32; MOST_DUTIES];
     look_through(
         t,
         engines,
@@ -165,10 +170,12 @@ fn write_through(
     part: &mut [u32],
     list: &mut [u32],
 )
-    requires { ⌜ Sliceable t (now services) (now periods) × (blocks ≤ length (now cuts)) × (blocks * length (now services) ≤ length (now list)) ⌝ }
+    requires { ⌜ Sliceable t (now services) (now periods) × (blocks ≤ length (now cuts))
+        × (blocks * length (now services) ≤ length (now list)) ⌝ }
     requires { ⌜ Lent (now services) (now rate) (now rest) (now whole) (now part) ⌝ }
     requires { ⌜ HasCuts (sharingBy t engines (now services) (now periods)) 0 blocks (now cuts) ⌝ }
-    ensures { λ r. ⌜ now (list .exit) ≡ over (flat (allotments (sharingBy t engines (now (services .entry)) (now (periods .entry)))) (tab blocks (λ b. b))) (now (list .entry)) ⌝ }
+    ensures { λ r. ⌜ now (list .exit)
+        ≡ over (allotted (sharingBy t engines (now (services .entry)) (now (periods .entry))) blocks) (now (list .entry)) ⌝ }
 {
     begin(t, engines, services, periods, rate, rest, whole, part);
     put_blocks(
@@ -196,15 +203,17 @@ pub fn write_list(
     cuts: &[u8],
     list: &mut [u32],
 )
-    requires { ⌜ Sliceable t (now services) (now periods) × (blocks ≤ length (now cuts)) × (blocks * length (now services) ≤ length (now list)) ⌝ }
+    requires { ⌜ Sliceable t (now services) (now periods) × (blocks ≤ length (now cuts))
+        × (blocks * length (now services) ≤ length (now list)) ⌝ }
     requires { ⌜ HasCuts (sharingBy t engines (now services) (now periods)) 0 blocks (now cuts) ⌝ }
-    ensures { λ r. ⌜ now (list .exit) ≡ over (flat (allotments (sharingBy t engines (now (services .entry)) (now (periods .entry)))) (tab blocks (λ b. b))) (now (list .entry)) ⌝ }
+    ensures { λ r. ⌜ now (list .exit)
+        ≡ over (allotted (sharingBy t engines (now (services .entry)) (now (periods .entry))) blocks) (now (list .entry)) ⌝ }
 {
     let n = services.len();
-    let mut rate = [0u32; 64];
-    let mut rest = [0u32; 64];
-    let mut whole = [0u32; 64];
-    let mut part = [0u32; 64];
+    let mut rate = [0u32; MOST_DUTIES];
+    let mut rest = [0u32; MOST_DUTIES];
+    let mut whole = [0u32; MOST_DUTIES];
+    let mut part = [0u32; MOST_DUTIES];
     write_through(
         t,
         engines,

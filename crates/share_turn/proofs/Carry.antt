@@ -62,6 +62,7 @@ module _ (d n g f : ℕ) (c : Bool) where
 
   pub next-part : g + f < d + d → (g + f) % d ≡ nextBy d n g f c % d
   next-part h =
+      let next = nextBy d n g f c in
       lt-or-le (g + f) d
-      (λ l. mod-eq-of-lt l ∙ sym (part-by d (nextBy d n g f c) (n + 0 + 1 - one-if c) (g + f) l next-below))
-      (λ l. sym (past-unit d (g + f) l h) ∙ sym (part-by d (nextBy d n g f c) (n + 1 + 1 - one-if c) (g + f - d) (omega arith) (next-past l)))
+      (λ l. mod-eq-of-lt l ∙ sym (part-by d next (n + 0 + 1 - one-if c) (g + f) l next-below))
+      (λ l. sym (past-unit d (g + f) l h) ∙ sym (part-by d next (n + 1 + 1 - one-if c) (g + f - d) (omega arith) (next-past l)))

@@ -1,11 +1,11 @@
-// SA2 by numbers alone: step 1 for a block, steps 2 and 4 for one duty's turn in it. An amount of units is held in two: whole ones, and a part
-// of one in D-ths, for a duty of period D. So a share is N and F, and a need n and f, n raised by 1; block after block there is no
+// SA2 by numbers alone: step 1 for a block, steps 2 and 4 for one duty's turn in it. An amount of units is held in two: whole ones, and a
+// part of one in D-ths, for a duty of period D. So a share is N and F, and a need n and f, n raised by 1; block after block there is no
 // division.
 ghost use mathlib.Core.Path.{_≡_};
 ghost use Prim.Native.Nat.{_+_, _-_, _*_, _/_, _%_, _≤_, _<_};
 ghost use lib.Dec.{leb, ltb, eqb};
 ghost use Rattle.laws.specs.Choice.{one-if};
-ghost use Rattle.paper.specs.Bytes.{small, mostTicks};
+ghost use Rattle.paper.specs.Limits.{mostEngines, mostDuties, mostTicks};
 ghost use Rattle.share_turn.specs.Taking.{wantsBy, chosenBy, nextBy};
 
 // Step 1: the free units of a block, and whether the needs' whole units are more than the engines have.
@@ -16,7 +16,7 @@ pub struct Room {
 
 // By the sum of the needs' whole units. Each of them is raised by 1, so the duties are counted in.
 pub fn room_in_block(t: u32, engines: u32, duties: u32, total: u32) -> Room
-    requires { ⌜ (t ≤ mostTicks) × (engines ≤ small .mostEngines) × (duties ≤ small .mostDuties) ⌝ }
+    requires { ⌜ (t ≤ mostTicks) × (engines ≤ mostEngines) × (duties ≤ mostDuties) ⌝ }
     ensures { λ r. ⌜ r .free ≡ engines * t + duties - total ⌝ }
     ensures { λ r. ⌜ r .overfull ≡ ltb (engines * t + duties) total ⌝ }
 {
@@ -56,8 +56,8 @@ fn part_of(period: u32, sum: u32, full: bool) -> u32
     if full { sum - period } else { sum }
 }
 
-// What a duty's turn comes to: the units that it gets, its need before the next block, and 1 if it would get -1 units (a number, so that all
-// that a loop adds up has the same width).
+// What a duty's turn comes to: the units that it gets, its need before the next block, and 1 if it would get -1 units (a number, so that
+// all that a loop adds up has the same width).
 pub struct Turn {
     pub units: u32,
     pub whole: u32,

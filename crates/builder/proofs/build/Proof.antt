@@ -20,20 +20,11 @@ asked s = wanted (s .args .engines) (s .args .services .now) (s .args .periods .
 abbrev room : tie.Start → ℕ
 room s = length (s .args .out .now)
 
-take-duties-requires : tie.Need-take-duties-requires
-take-duties-requires c κs = search needs
-
-enum-known-verdict : tie.Need-enum-known-verdict
-enum-known-verdict c = search needs
-
-enum-told : tie.Need-enum-told
-enum-told c = search needs
-
-gcd-of-all-requires : tie.Need-gcd-of-all-requires
-gcd-of-all-requires c κs = search needs
-
 -- past the tests none of 1 to 5 applies
-takes : (c : tie.After-enum-told) → Taken (asked (c .before .before .before .before .before .before))
+abbrev begun : tie.After-enum-told → tie.Start
+begun c = c .before .before .before .before .before .before
+
+takes : (c : tie.After-enum-told) → Taken (asked (begun c))
 takes c = none-applies _ _ (c .before .before .take-duties .ensures) (c .enum-told .given .1)
 
 build-fitting-requires : tie.Need-build-fitting-requires
@@ -43,30 +34,29 @@ build-fitting-requires c κs =
 
 returns : tie.Need-returns
 returns c =
-    let s = c .before .before .before .before .before .before .before in
-    writes-refused _ _ (not-built (asked s) _ (c .before .before .before .take-duties .ensures) _ (room s) (c .before .verdict .given .1))
-
-same-length : tie.Need-same-length
-same-length c = search needs
+    let taking = c .before .before .before in
+    let s = taking .before .before .before .before in
+    writes-refused _ _ (not-built (asked s) _ (taking .take-duties .ensures) _ (room s) (c .before .verdict .given .1))
 
 returns-2 : tie.Need-returns-2
 returns-2 c =
-    let s = c .before .before .before .before .before .before .before .before .before .before .before in
+    let divisor = c .before .before .before .before in
+    let taken = divisor .before in
+    let s = begun taken in
     let x = asked s in
     writes-same
-    (built-at x (room s) (takes (c .before .before .before .before .before))
-    ∙ ap (λ (t : ℕ). buildAt t (x .engines) (dutySet x) (room s)) (sym (c .before .before .before .before .gcd-of-all .ensures)))
+    (built-at x (room s) (takes taken) ∙ ap (λ (t : ℕ). buildAt t (x .engines) (dutySet x) (room s)) (sym (divisor .gcd-of-all .ensures)))
     (c .before .before .build-fitting .ensures)
 
 pub build-spec : {M : Type 1} → statement M
 build-spec =
     tie.close
     (tie.spec
-    take-duties-requires
-    enum-known-verdict
-    enum-told
-    gcd-of-all-requires
+    (λ c κs. search needs)
+    (λ c. search needs)
+    (λ c. search needs)
+    (λ c κs. search needs)
     build-fitting-requires
     returns
-    same-length
+    (λ c. search needs)
     returns-2)

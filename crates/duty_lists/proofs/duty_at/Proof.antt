@@ -1,7 +1,7 @@
 -- `duty_at`: the entries of the two lists at i make duty i.
 -- Assumes nothing.
 use mathlib.Core.Path.{sym}
-use Rattle.duty_lists.proofs.Duties.{duty-is}
+use Rattle.plan_laws.proofs.Planned.{duty-is}
 use borrow.Author.Needs.{needs}
 use Rattle.duty_lists.proofs.duty_at.Statement.{statement}
 use Rattle.duty_lists.proofs.duty_at.Tie as tie

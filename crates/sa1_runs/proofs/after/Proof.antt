@@ -1,4 +1,5 @@
--- `after`: units that end before the row does leave the place on the row; else it is on the next, and as the slice is at most T its unit is below T.
+-- `after`: units that end before the row does leave the place on the row; else it is on the next, and as the slice is at most T its unit is
+-- below T.
 -- Assumes nothing.
 use mathlib.Core.Path.{sym}
 use Rattle.sa1_runs.proofs.Laying.{place-inside, place-beyond}

@@ -1,12 +1,12 @@
--- `fit_table`: each test is the definition's, in the definition's order. No product leaves a word, since rows and engines are few and a block
--- is at most a million ticks.
+-- `fit_table`: each test is the definition's, in the definition's order. No product leaves a word, since rows and engines are few and a
+-- block is at most a million ticks.
 -- Assumes nothing.
-use Prim.Native.Nat.{ℕ, _+_, _*_, _≤_}
+use Prim.Native.Nat.{ℕ, _*_, _≤_}
 use mathlib.Core.Path.{sym}
 use native.Mathlib.Nat.{mul-le-mul}
 use native.Mathlib.Omega.{arith}
 use borrow.Author.Needs.{needs}
-use Rattle.paper.specs.Bytes.{small, mostTicks}
+use Rattle.paper.specs.Limits.{small, mostEngines, mostDuties, mostTicks, tableLength}
 use Rattle.sa1_runs.specs.Laying.{unitsTo}
 use Rattle.sa1_runs.proofs.Fitting.{fitted-7, fitted-8, fitted-all}
 use Rattle.sa1_runs.proofs.fit_table.Statement.{statement}
@@ -14,13 +14,13 @@ use Rattle.sa1_runs.proofs.fit_table.Tie as tie
 
 -- the bytes that the table needs
 abbrev needed : tie.Start → ℕ
-needed s = 10 + 9 * s .args .duties + 11 * s .args .runs
+needed s = tableLength small (s .args .duties) (s .args .runs)
 
 -- the units of the engines, and those of the rows
-have : (s : tie.Start) → s .args .engines * s .args .t ≤ small .mostEngines * mostTicks
+have : (s : tie.Start) → s .args .engines * s .args .t ≤ mostEngines * mostTicks
 have s = mul-le-mul (s .pre .0 .1) (s .pre .0 .0)
 
-rows : (s : tie.Start) → s .args .end .row .0 * s .args .t ≤ small .mostDuties * mostTicks
+rows : (s : tie.Start) → s .args .end .row .0 * s .args .t ≤ mostDuties * mostTicks
 rows s = mul-le-mul (s .pre .0 .3) (s .pre .0 .0)
 
 mul-if1 : tie.Need-mul-if1
@@ -35,7 +35,8 @@ add-if1 c = omega (arith, rows (c .before .before))
 returns : tie.Need-returns
 returns c =
     let s = c .before .before .before in
-    sym (fitted-7 (s .args .engines * s .args .t) (unitsTo (s .args .t) (s .args .end)) (needed s) (s .args .room) (search needs))
+    let a = s .args in
+    sym (fitted-7 (a .engines * a .t) (unitsTo (a .t) (a .end)) (needed s) (a .room) (search needs))
 
 mul-needed : tie.Need-mul-needed
 mul-needed c = omega arith
@@ -49,15 +50,20 @@ mul-needed-2 c = omega arith
 add-needed-2 : tie.Need-add-needed-2
 add-needed-2 c = omega arith
 
+add-needed-3 : tie.Need-add-needed-3
+add-needed-3 c = omega arith
+
 returns-2 : tie.Need-returns-2
 returns-2 c =
     let s = c .before .before .before .before in
-    sym (fitted-8 (s .args .engines * s .args .t) (unitsTo (s .args .t) (s .args .end)) (needed s) (s .args .room) (search needs) (search needs))
+    let a = s .args in
+    sym (fitted-8 (a .engines * a .t) (unitsTo (a .t) (a .end)) (needed s) (a .room) (search needs) (search needs))
 
 returns-3 : tie.Need-returns-3
 returns-3 c =
     let s = c .before .before .before .before in
-    sym (fitted-all (s .args .engines * s .args .t) (unitsTo (s .args .t) (s .args .end)) (needed s) (s .args .room) (search needs) (search needs))
+    let a = s .args in
+    sym (fitted-all (a .engines * a .t) (unitsTo (a .t) (a .end)) (needed s) (a .room) (search needs) (search needs))
 
 pub fit-table-spec : {M : Type 1} → statement M
 fit-table-spec =
@@ -71,5 +77,6 @@ fit-table-spec =
     add-needed
     mul-needed-2
     add-needed-2
+    add-needed-3
     returns-2
     returns-3)

@@ -46,23 +46,11 @@ at-duty :
     (loop .i < length (s .args .services .now)) × (loop .wanting < s .args .left)
 at-duty c = going-on _ _ _ _ (c .loop-test .taken)
 
-mul-wants-more : tie.Need-mul-wants-more Inv-loop μ-loop
-mul-wants-more c = search needs
-
 shared-slice-read-wants-more : tie.Need-shared-slice-read-wants-more Inv-loop μ-loop
 shared-slice-read-wants-more c = omega (arith, at-duty (c .before) .0, c .before .before .loop .inv .1)
 
-mul-wants-more-2 : tie.Need-mul-wants-more-2 Inv-loop μ-loop
-mul-wants-more-2 c = search needs
-
 shared-slice-read-wants-more-2 : tie.Need-shared-slice-read-wants-more-2 Inv-loop μ-loop
 shared-slice-read-wants-more-2 c = omega (arith, at-duty (c .before .before) .0, c .before .before .before .loop .inv .2)
-
-wants-more-requires : tie.Need-wants-more-requires Inv-loop μ-loop
-wants-more-requires c κs = search needs
-
-one-if-requires : tie.Need-one-if-requires Inv-loop μ-loop
-one-if-requires c κs = search needs
 
 add-wanting : tie.Need-add-wanting Inv-loop μ-loop
 add-wanting c =
@@ -81,15 +69,18 @@ loop-less c = omega (arith, at-duty (c .before .before .before .before) .0)
 
 loop-again : tie.Need-loop-again Inv-loop μ-loop
 loop-again c =
-    let s = c .before .before .before .before .before .before .before .before .before .before in
-    let loop = c .before .before .before .before .before .loop in
-    let on = at-duty (c .before .before .before .before) in
-    let wants = ap one-if (c .before .wants-more .ensures) in
-    let more = cutting-more _ _ _ _ (loop .inv .0) (s .pre .0 .1) (s .pre .1) (on .0) (on .1) (c .one-if .ensures .0 ∙ wants) (c .one-if .ensures .1) in
+    let at-loop-test = c .before .before .before .before in
+    let loop = at-loop-test .before .loop in
+    let s = at-loop-test .before .before .before .before .before .before in
+    let on = at-duty at-loop-test in
+    let wants = c .one-if .ensures .0 ∙ ap one-if (c .before .wants-more .ensures) in
+    let more = cutting-more _ _ _ _ (loop .inv .0) (s .pre .0 .1) (s .pre .1) (on .0) (on .1) wants (c .one-if .ensures .1) in
     (more, loop .inv .1, loop .inv .2)
 
 cast-result : tie.Need-cast-result Inv-loop μ-loop
-cast-result c = omega (arith, c .before .loop .inv .0 .seeking .within, c .before .before .before .before .before .before .pre .0 .0 .paired .few)
+cast-result c =
+    let s = c .before .before .before .before .before .before in
+    omega (arith, c .before .loop .inv .0 .seeking .within, s .pre .0 .0 .paired .few)
 
 returns : tie.Need-returns Inv-loop μ-loop
 returns c =
@@ -105,12 +96,12 @@ find-cut-spec =
     Inv-loop
     μ-loop
     loop-holds
-    mul-wants-more
+    (λ c. search needs)
     shared-slice-read-wants-more
-    mul-wants-more-2
+    (λ c. search needs)
     shared-slice-read-wants-more-2
-    wants-more-requires
-    one-if-requires
+    (λ c κs. search needs)
+    (λ c κs. search needs)
     add-wanting
     add-i
     loop-less

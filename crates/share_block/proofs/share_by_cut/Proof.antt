@@ -1,5 +1,5 @@
--- `share_by_cut`: each turn is a turn of SA2 (`took`), since the lists hold the duty's share and need and the cut finds who is chosen. The sum
--- stays small: at most T + 2 for each duty.
+-- `share_by_cut`: each turn is a turn of SA2 (`took`), since the lists hold the duty's share and need and the cut finds who is chosen. The
+-- sum stays small: at most T + 2 for each duty.
 -- Assumes nothing.
 use Prim.Native.Nat.{ℕ, _+_, _-_, _<_}
 use mathlib.Core.Path.{_≡_, sym, ap, _∙_}
@@ -7,10 +7,10 @@ use native.Mathlib.Nat.{lt-of-lt-of-le}
 use native.Mathlib.Omega.{arith}
 use borrow.Author.Needs.{needs}
 use lib.ListN.{length}
-use Rattle.plan_laws.proofs.Planned.{length-duties}
-use Rattle.duty_lists.proofs.Duties.{duty-is}
+use Rattle.plan_laws.proofs.Planned.{length-duties, duty-is}
 use Rattle.share_block.specs.Paced.{sharingBy}
-use Rattle.share_block.proofs.Going.{Going, turn-taken, going-none, going-more, going-paced, going-lacked, going-written, ready, long-as}
+use Rattle.share_block.proofs.Going.{Going, turn-taken, going-none, going-more, going-paced, going-lacked, going-written}
+use Rattle.share_block.proofs.Going.{ready, long-as}
 use Rattle.share_block.proofs.share_by_cut.Statement.{statement}
 use Rattle.share_block.proofs.share_by_cut.Tie as tie
 
@@ -45,6 +45,10 @@ loop-holds c =
       long-as _ _ _ _ (needed .parts) n,
     )
 
+-- where the function began, from inside the loop
+abbrev begun : tie.In-loop Inv-loop μ-loop → tie.Start Inv-loop μ-loop
+begun c = c .before .before .before .before .before .before .before .before .before
+
 mul-take-turn : tie.Need-mul-take-turn Inv-loop μ-loop
 mul-take-turn c = search needs
 
@@ -61,13 +65,17 @@ mul-take-turn-3 : tie.Need-mul-take-turn-3 Inv-loop μ-loop
 mul-take-turn-3 c = mul-take-turn (c .before .before)
 
 shared-slice-read-take-turn-3 : tie.Need-shared-slice-read-take-turn-3 Inv-loop μ-loop
-shared-slice-read-take-turn-3 c = below (c .before .before .before .loop-test .taken) (c .before .before .before .before .loop .inv .3)
+shared-slice-read-take-turn-3 c =
+    let at-loop-test = c .before .before .before in
+    below (at-loop-test .loop-test .taken) (at-loop-test .before .loop .inv .3)
 
 mul-take-turn-4 : tie.Need-mul-take-turn-4 Inv-loop μ-loop
 mul-take-turn-4 c = mul-take-turn (c .before .before .before)
 
 slice-read-take-turn : tie.Need-slice-read-take-turn Inv-loop μ-loop
-slice-read-take-turn c = below (c .before .before .before .before .loop-test .taken) (c .before .before .before .before .before .loop .inv .0 .wholes .long)
+slice-read-take-turn c =
+    let at-loop-test = c .before .before .before .before in
+    below (at-loop-test .loop-test .taken) (at-loop-test .before .loop .inv .0 .wholes .long)
 
 mul-take-turn-5 : tie.Need-mul-take-turn-5 Inv-loop μ-loop
 mul-take-turn-5 c = mul-take-turn (c .before .before .before .before)
@@ -78,25 +86,26 @@ slice-read-take-turn-2 c =
     let at-loop = at-loop-test .before in
     below (at-loop-test .loop-test .taken) (at-loop .loop .inv .0 .parts .long)
 
-cast-take-turn : tie.Need-cast-take-turn Inv-loop μ-loop
-cast-take-turn c = search needs
-
 take-turn-requires : tie.Need-take-turn-requires Inv-loop μ-loop
 take-turn-requires c κs =
-    let s = c .before .before .before .before .before .before .before .before .before .before .before .before .before .before in
-    let loop = c .before .before .before .before .before .before .loop in
-    let l = c .before .before .before .before .before .loop-test .taken in
+    let at-loop-test = c .before .before .before .before .before in
+    let s = begun at-loop-test in
+    let loop = at-loop-test .before .loop in
+    let l = at-loop-test .loop-test .taken in
     let h = s .pre .0 .0 .ranged (loop .i) l in
     let d = ap (λ x. x .period) (duty-is (s .args .services .now) (s .args .periods .now) (loop .i) l) in
     ready _ _ _ (loop .inv .0) l (s .pre .1 .0) h (sym d) (s .pre .0 .0 .ticks-most)
 
 mul-units : tie.Need-mul-units Inv-loop μ-loop
-mul-units c = mul-take-turn (c .before .before .before .before .before .before)
+mul-units c =
+    let at-loop-test = c .before .before .before .before .before .before in
+    mul-take-turn at-loop-test
 
 slice-write-units : tie.Need-slice-write-units Inv-loop μ-loop
 slice-write-units c =
-    let going = c .before .before .before .before .before .before .before .loop .inv .0 in
-    below (lt-of-lt-of-le (c .before .before .before .before .before .before .loop-test .taken) (going .room)) (going .given .long)
+    let at-loop-test = c .before .before .before .before .before .before in
+    let going = at-loop-test .before .loop .inv .0 in
+    below (lt-of-lt-of-le (at-loop-test .loop-test .taken) (going .room)) (going .given .long)
 
 mul-whole : tie.Need-mul-whole Inv-loop μ-loop
 mul-whole c = mul-units c
@@ -112,31 +121,34 @@ slice-write-part c = slice-read-take-turn-2 (c .before)
 
 add-next : tie.Need-add-next Inv-loop μ-loop
 add-next c =
-    let s = c .before .before .before .before .before .before .before .before .before .before .before .before .before .before .before .before in
-    let going = c .before .before .before .before .before .before .before .before .loop .inv .0 in
-    omega (arith, going .most, going .within, c .before .take-turn .ensures .1 .0 .1, s .pre .0 .0 .ticks-most, s .pre .0 .0 .paired .few)
+    let at-loop-test = c .before .before .before .before .before .before .before in
+    let fit = begun at-loop-test .pre .0 .0 in
+    let going = at-loop-test .before .loop .inv .0 in
+    omega (arith, going .most, going .within, c .before .take-turn .ensures .1 .0 .1, fit .ticks-most, fit .paired .few)
 
 add-lacking : tie.Need-add-lacking Inv-loop μ-loop
 add-lacking c =
     let at-take-turn = c .before .before in
-    let at-loop = at-take-turn .before .before .before .before .before .before .before in
-    let s = at-loop .before .before .before .before .before .before .before .before in
-    let going = at-loop .loop .inv .0 in
-    omega (arith, going .few, going .within, at-take-turn .take-turn .ensures .1 .1 .1 .1, s .pre .0 .0 .paired .few)
+    let at-loop-test = at-take-turn .before .before .before .before .before .before in
+    let going = at-loop-test .before .loop .inv .0 in
+    omega (arith, going .few, going .within, at-take-turn .take-turn .ensures .1 .1 .1 .1, begun at-loop-test .pre .0 .0 .paired .few)
 
 add-i : tie.Need-add-i Inv-loop μ-loop
 add-i c =
-    let s = c .before .before .before .before .before .before .before .before .before .before .before .before .before .before .before .before .before in
-    omega (arith, s .pre .0 .0 .paired .few)
+    let at-loop-test = c .before .before .before .before .before .before .before .before in
+    omega (arith, begun at-loop-test .pre .0 .0 .paired .few)
 
 loop-less : tie.Need-loop-less Inv-loop μ-loop
-loop-less c = fewer (c .before .before .before .before .before .before .before .before .loop-test .taken)
+loop-less c =
+    let at-loop-test = c .before .before .before .before .before .before .before .before in
+    fewer (at-loop-test .loop-test .taken)
 
 loop-again : tie.Need-loop-again Inv-loop μ-loop
 loop-again c =
-    let s = c .before .before .before .before .before .before .before .before .before .before .before .before .before .before .before .before .before in
-    let loop = c .before .before .before .before .before .before .before .before .before .loop in
-    let below = c .before .before .before .before .before .before .before .before .loop-test .taken in
+    let at-loop-test = c .before .before .before .before .before .before .before .before in
+    let s = begun at-loop-test in
+    let loop = at-loop-test .before .loop in
+    let below = at-loop-test .loop-test .taken in
     let turn = c .before .before .take-turn .ensures in
     let d = ap (λ x. x .period) (duty-is (s .args .services .now) (s .args .periods .now) (loop .i) below) in
     let taken = turn-taken _ _ _ _ _ _ _ _ (loop .inv .0) below (s .pre .1 .0) (sym d) (s .pre .1 .1 .1)
@@ -176,7 +188,7 @@ share-by-cut-spec =
     slice-read-take-turn
     mul-take-turn-5
     slice-read-take-turn-2
-    cast-take-turn
+    (λ c. search needs)
     take-turn-requires
     mul-units
     slice-write-units

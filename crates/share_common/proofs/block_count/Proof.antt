@@ -1,5 +1,6 @@
 -- `block_count`: a common multiple of 0 stands for too many blocks; past that it is the common multiple, by which the overload is told.
 -- Assumes nothing.
+use Prim.Native.Nat.{_<_}
 use mathlib.Core.Path.{sym}
 use native.Mathlib.Omega.{arith}
 use borrow.Author.Needs.{needs}
@@ -17,27 +18,23 @@ returns c =
     let s = c .before .before .before .before in
     sym (too-many _ _ _ _ (s .pre .0) (s .pre .1) (s .pre .2) _ (c .before .common-of .ensures) (c .if1 .taken))
 
-is-overload-requires : tie.Need-is-overload-requires
-is-overload-requires c κs = search needs
-
 returns-2 : tie.Need-returns-2
 returns-2 c =
-    let s = c .before .before .before .before .before .before in
-    sym
-    (too-much _ _ _ _ (s .pre .0) (s .pre .1) (s .pre .2) _ (c .before .before .before .common-of .ensures) (omega (arith, c .before .before .if1 .left)) _
+    let told = c .before .before .before in
+    let s = told .before .before .before in
+    let some : 0 < told .common-of .result = omega (arith, c .before .before .if1 .left) in
+    sym (too-much _ _ _ _ (s .pre .0) (s .pre .1) (s .pre .2) _ (told .common-of .ensures) some _
     (c .before .is-overload .ensures) (c .if2 .taken))
-
-div-t10 : tie.Need-div-t10
-div-t10 c = search needs
 
 returns-3 : tie.Need-returns-3
 returns-3 c =
-    let s = c .before .before .before .before .before .before in
-    sym
-    (counted _ _ _ _ (s .pre .0) (s .pre .1) (s .pre .2) _ (c .before .before .before .common-of .ensures) (omega (arith, c .before .before .if1 .left)) _
+    let told = c .before .before .before in
+    let s = told .before .before .before in
+    let some : 0 < told .common-of .result = omega (arith, c .before .before .if1 .left) in
+    sym (counted _ _ _ _ (s .pre .0) (s .pre .1) (s .pre .2) _ (told .common-of .ensures) some _
     (c .before .is-overload .ensures) (c .if2 .left))
 
 pub block-count-spec : {M : Type 1} → statement M
 block-count-spec =
     tie.close
-    (tie.spec common-of-requires returns is-overload-requires returns-2 div-t10 returns-3)
+    (tie.spec common-of-requires returns (λ c κs. search needs) returns-2 (λ c. search needs) returns-3)

@@ -1,7 +1,7 @@
 -- `is_overload`: what the duties need is added up; none needs more than the ticks, so the sum of few of them fits 64 bits.
 -- Assumes nothing.
-use Prim.Native.Nat.{ℕ, _+_, _*_, _/_, _-_, _≤_, _<_}
-use mathlib.Core.Path.{_≡_, refl, sym, ap, _∙_}
+use Prim.Native.Nat.{ℕ, _*_, _/_, _-_, _^_, _≤_}
+use mathlib.Core.Path.{_≡_, sym, ap, _∙_}
 use native.Mathlib.Nat.{mul-le-mul}
 use native.Mathlib.Omega.{arith}
 use borrow.Author.Needs.{needs}
@@ -10,6 +10,7 @@ use lib.ListN.{length}
 use Rattle.laws.specs.Sum.{sumTo}
 use Rattle.laws.proofs.Sum.{sum-none, sum-more}
 use Rattle.paper.specs.declared.Duty.{Duty}
+use Rattle.paper.specs.Limits.{mostEngines}
 use Rattle.paper.specs.Wanted.{dutiesOf}
 use Rattle.plan_laws.proofs.Planned.{length-duties}
 use Rattle.share_common.specs.Common.{loadAt}
@@ -20,7 +21,7 @@ abbrev Inv-loop : tie.InvT-loop
 Inv-loop t engines services periods common load₀ i₀ load i =
     (i ≤ length services)
     × (load ≡ sumTo i (loadAt (dutiesOf services periods) common))
-    × (load ≤ 4_294_967_295 * i)
+    × (load ≤ (2 ^ 32 - 1) * i)
 
 abbrev μ-loop : tie.MeasureT-loop
 μ-loop t engines services periods common load₀ i₀ load i = length services - i
@@ -28,40 +29,30 @@ abbrev μ-loop : tie.MeasureT-loop
 loop-holds : tie.Need-loop-holds Inv-loop μ-loop
 loop-holds c = (search needs, sym (sum-none _), omega arith)
 
-duty-at-requires : tie.Need-duty-at-requires Inv-loop μ-loop
-duty-at-requires c κs = search needs
-
 load-of-requires : tie.Need-load-of-requires Inv-loop μ-loop
 load-of-requires c κs =
-    let z = c .before .before .before .before .before .pre .0 .ranged (c .before .before .loop .i) (search needs) in
+    let at-loop = c .before .before in
+    let z = at-loop .before .before .before .pre .0 .ranged (at-loop .loop .i) (search needs) in
     rw (c .duty-at .ensures) (z .period-least, z .service-most)
-
-add-load : tie.Need-add-load Inv-loop μ-loop
-add-load c = search needs
-
-add-i : tie.Need-add-i Inv-loop μ-loop
-add-i c = search needs
-
-loop-less : tie.Need-loop-less Inv-loop μ-loop
-loop-less c = search needs
 
 loop-again : tie.Need-loop-again Inv-loop μ-loop
 loop-again c =
-    let i = c .before .before .before .loop .i in
-    let a = c .before .before .before .before .before .before .args in
+    let at-loop = c .before .before .before in
+    let i = at-loop .loop .i in
+    let a = at-loop .before .before .before .args in
     let ds = dutiesOf (a .services .now) (a .periods .now) in
     let here : c .load-of .result ≡ loadAt ds (a .common) i =
     c .load-of .ensures .0 ∙ ap (λ (x : Duty). x .service * (a .common / x .period)) (c .before .duty-at .ensures) in (
       search needs,
-      omega (arith, sum-more i (loadAt ds (a .common)), here, c .before .before .before .loop .inv .1),
-      omega (arith, c .load-of .ensures .1, c .before .before .before .loop .inv .2),
+      omega (arith, sum-more i (loadAt ds (a .common)), here, at-loop .loop .inv .1),
+      omega (arith, c .load-of .ensures .1, at-loop .loop .inv .2),
     )
 
 mul-result : tie.Need-mul-result Inv-loop μ-loop
 mul-result c =
-    let a = c .before .before .before .before .args in
-    let small : a .common ≤ 4_294_967_295 = omega arith in
-    omega (arith, mul-le-mul {n₂ = 32} {m₂ = 4_294_967_295} (c .before .before .before .before .pre .1) small)
+    let s = c .before .before .before .before in
+    let small : s .args .common ≤ 2 ^ 32 - 1 = omega arith in
+    omega (arith, mul-le-mul {n₂ = mostEngines} {m₂ = 2 ^ 32 - 1} (s .pre .1) small)
 
 returns : tie.Need-returns Inv-loop μ-loop
 returns c =
@@ -78,11 +69,11 @@ is-overload-spec =
     Inv-loop
     μ-loop
     loop-holds
-    duty-at-requires
+    (λ c κs. search needs)
     load-of-requires
-    add-load
-    add-i
-    loop-less
+    (λ c. search needs)
+    (λ c. search needs)
+    (λ c. search needs)
     loop-again
     mul-result
     returns)

@@ -16,12 +16,6 @@ fits :
     s .args .x .service * (s .args .ticks / s .args .x .period) ≤ s .args .ticks
 fits c = most _ _ _ (c .before .before .pre .1)
 
-cast-result : tie.Need-cast-result
-cast-result c = search needs
-
-div-result : tie.Need-div-result
-div-result c = search needs
-
 cast-result-2 : tie.Need-cast-result-2
 cast-result-2 c = omega (arith, div-le-self (c .before .before .args .ticks) (c .before .before .args .x .period))
 
@@ -32,4 +26,4 @@ returns : tie.Need-returns
 returns c = (refl, fits c)
 
 pub load-of-spec : {M : Type 1} → statement M
-load-of-spec = tie.close (tie.spec cast-result div-result cast-result-2 mul-result returns)
+load-of-spec = tie.close (tie.spec (λ c. search needs) (λ c. search needs) cast-result-2 mul-result returns)

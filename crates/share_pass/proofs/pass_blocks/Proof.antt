@@ -29,32 +29,21 @@ loop-holds c =
 
 share-block-requires : tie.Need-share-block-requires Inv-loop μ-loop
 share-block-requires c κs =
-    let s = c .before .before .before .before .before .before .before .before .before .before .before .before .before in
-    ((s .pre .0 .0, s .pre .0 .1, omega (arith, s .pre .0 .2)), (s .pre .1 .0, c .before .before .before .before .loop .inv .0 .paced))
-
-same-length : tie.Need-same-length Inv-loop μ-loop
-same-length c = search needs
-
-same-length-2 : tie.Need-same-length-2 Inv-loop μ-loop
-same-length-2 c = search needs
-
-same-length-3 : tie.Need-same-length-3 Inv-loop μ-loop
-same-length-3 c = search needs
-
-same-length-4 : tie.Need-same-length-4 Inv-loop μ-loop
-same-length-4 c = search needs
+    let at-loop = c .before .before .before .before in
+    let s = at-loop .before .before .before .before .before .before .before .before .before in
+    ((s .pre .0 .0, s .pre .0 .1, omega (arith, s .pre .0 .2)), (s .pre .1 .0, at-loop .loop .inv .0 .paced))
 
 returns : tie.Need-returns Inv-loop μ-loop
 returns c =
-    let share = c .before .before .before .before .before .before .before .share-block .ensures in
-    let inv = c .before .before .before .before .before .before .before .before .before .before .before .before .loop .inv in
+    let at-share = c .before .before .before .before .before .before .before in
+    let share = at-share .share-block .ensures in
+    let inv = at-share .before .before .before .before .before .loop .inv in
     (passing-short _ _ _ (inv .0) (search needs) (sym (share .1 .0) ∙ c .if1 .taken), inv .1)
 
 cast-cuts : tie.Need-cast-cuts Inv-loop μ-loop
-cast-cuts c = omega (arith, c .before .before .before .before .before .before .before .before .share-block .ensures .1 .1 .1 .1)
-
-cast-cuts-2 : tie.Need-cast-cuts-2 Inv-loop μ-loop
-cast-cuts-2 c = search needs
+cast-cuts c =
+    let at-share = c .before .before .before .before .before .before .before .before in
+    omega (arith, at-share .share-block .ensures .1 .1 .1 .1)
 
 slice-write-cuts : tie.Need-slice-write-cuts Inv-loop μ-loop
 slice-write-cuts c =
@@ -63,31 +52,14 @@ slice-write-cuts c =
     let s = at-loop .before .before .before .before .before .before .before .before .before in
     omega (arith, at-loop-test .loop-test .taken, at-loop .loop .inv .5, s .pre .0 .4)
 
-add-b : tie.Need-add-b Inv-loop μ-loop
-add-b c = search needs
-
-loop-less : tie.Need-loop-less Inv-loop μ-loop
-loop-less c = search needs
-
 loop-again : tie.Need-loop-again Inv-loop μ-loop
 loop-again c =
-    let share = c .before .before .before .before .before .before .before .before .share-block .ensures in
-    let inv = c .before .before .before .before .before .before .before .before .before .before .before .before .before .loop .inv in
+    let at-share = c .before .before .before .before .before .before .before .before in
+    let share = at-share .share-block .ensures in
+    let inv = at-share .before .before .before .before .before .loop .inv in
     let next = passing-more _ _ _ _ (inv .0) (search needs) (sym (share .1 .0) ∙ c .before .if1 .left) (share .0) (share .1 .1 .0) in
     let kept = kept-more _ (inv .1) (inv .0 .least) (slice-write-cuts c) (share .1 .1 .1 .0) in
     (next, kept, search needs, search needs, search needs, search needs)
-
-same-length-5 : tie.Need-same-length-5 Inv-loop μ-loop
-same-length-5 c = search needs
-
-same-length-6 : tie.Need-same-length-6 Inv-loop μ-loop
-same-length-6 c = search needs
-
-same-length-7 : tie.Need-same-length-7 Inv-loop μ-loop
-same-length-7 c = search needs
-
-same-length-8 : tie.Need-same-length-8 Inv-loop μ-loop
-same-length-8 c = search needs
 
 returns-2 : tie.Need-returns-2 Inv-loop μ-loop
 returns-2 c =
@@ -102,19 +74,19 @@ pass-blocks-spec =
     μ-loop
     loop-holds
     share-block-requires
-    same-length
-    same-length-2
-    same-length-3
-    same-length-4
+    (λ c. search needs)
+    (λ c. search needs)
+    (λ c. search needs)
+    (λ c. search needs)
     returns
     cast-cuts
-    cast-cuts-2
+    (λ c. search needs)
     slice-write-cuts
-    add-b
-    loop-less
+    (λ c. search needs)
+    (λ c. search needs)
     loop-again
-    same-length-5
-    same-length-6
-    same-length-7
-    same-length-8
+    (λ c. search needs)
+    (λ c. search needs)
+    (λ c. search needs)
+    (λ c. search needs)
     returns-2)

@@ -24,29 +24,25 @@ abbrev μ-loop : tie.MeasureT-loop
 μ-loop t engines services periods rate rest blocks cuts whole₀ part₀ list₀ at₀ b₀ whole part list at b = blocks - b
 
 loop-holds : tie.Need-loop-holds Inv-loop μ-loop
-loop-holds c = (putting-none _ _ _ _ _ (c .before .before .before .before .before .before .before .before .pre .1 .1 .0), refl, refl, refl)
+loop-holds c =
+    let s = c .before .before .before .before .before .before .before .before in
+    (putting-none _ _ _ _ _ (s .pre .1 .1 .0), refl, refl, refl)
 
-cast-cut : tie.Need-cast-cut Inv-loop μ-loop
-cast-cut c = search needs
+-- where the function began, from inside the loop
+abbrev begun : tie.In-loop Inv-loop μ-loop → tie.Start Inv-loop μ-loop
+begun c = c .before .before .before .before .before .before .before .before .before .before
 
 shared-slice-read-cut : tie.Need-shared-slice-read-cut Inv-loop μ-loop
-shared-slice-read-cut c =
-    let at-loop-test = c .before in
-    let s = at-loop-test .before .before .before .before .before .before .before .before .before .before in
-    omega (arith, at-loop-test .loop-test .taken, s .pre .0 .1)
+shared-slice-read-cut c = omega (arith, c .before .loop-test .taken, begun (c .before) .pre .0 .1)
 
 cast-cut-2 : tie.Need-cast-cut-2 Inv-loop μ-loop
 cast-cut-2 c =
-    let s = c .before .before .before .before .before .before .before .before .before .before .before in
+    let s = begun (c .before) in
     let b = c .before .before .loop .b in
     let is = s .pre .1 .1 .1 b (omega arith) (c .before .loop-test .taken) in
     let plan = sharingBy (s .args .t) (s .args .engines) (s .args .services .now) (s .args .periods .now) in
     let most = cut-most plan (needsAt plan b) in
     omega (arith, is, most, length-duties (s .args .services .now) (s .args .periods .now), s .pre .0 .0 .paired .few)
-
--- where the function began, from inside the loop
-abbrev begun : tie.In-loop Inv-loop μ-loop → tie.Start Inv-loop μ-loop
-begun c = c .before .before .before .before .before .before .before .before .before .before
 
 -- the next block has room, so its place is in the list
 room :
@@ -75,40 +71,25 @@ part-share-by-cut-end c = le-refl _
 share-by-cut-requires : tie.Need-share-by-cut-requires Inv-loop μ-loop
 share-by-cut-requires c κs =
     let at-loop-test = c .before .before .before .before in
-    let at-loop = at-loop-test .before in
-    let s = at-loop .before .before .before .before .before .before .before .before .before in
-    let loop = at-loop .loop in
+    let s = begun at-loop-test in
+    let loop = at-loop-test .before .loop in
     let cut = s .pre .1 .1 .1 (loop .b) (omega arith) (at-loop-test .loop-test .taken) in
     ((s .pre .0 .0, rw length-lent (omega (arith, room at-loop-test))), (s .pre .1 .0, (loop .inv .0 .needed, cut)))
 
 add-at : tie.Need-add-at Inv-loop μ-loop
 add-at c =
     let lending = c .before .before .before .before .before .before .before .before in
-    let s = lending .before .before .before .before .before .before .before .before .before .before .before .before .before in
-    omega (arith, mul-share-by-cut lending .fits, s .pre .0 .0 .paired .few)
-
-add-b : tie.Need-add-b Inv-loop μ-loop
-add-b c = search needs
-
-loop-less : tie.Need-loop-less Inv-loop μ-loop
-loop-less c = search needs
+    omega (arith, mul-share-by-cut lending .fits, begun (lending .before .before .before) .pre .0 .0 .paired .few)
 
 loop-again : tie.Need-loop-again Inv-loop μ-loop
 loop-again c =
-    let s = begun (c .before .before .before .before .before .before .before .before .before .before .before) in
+    let at-share = c .before .before .before .before .before .before in
+    let at-loop-test = at-share .before .before .before .before .before in
+    let s = begun at-loop-test in
     let n = sym (length-duties (s .args .services .now) (s .args .periods .now)) in
-    let share = c .before .before .before .before .before .before .share-by-cut .ensures in
-    let inv = c .before .before .before .before .before .before .before .before .before .before .before .before .loop .inv in
-    (putting-more _ _ _ _ (inv .0) (search needs) n (share .0 .needs) (share .1 .1) (search needs), search needs, search needs, search needs)
-
-same-length : tie.Need-same-length Inv-loop μ-loop
-same-length c = search needs
-
-same-length-2 : tie.Need-same-length-2 Inv-loop μ-loop
-same-length-2 c = search needs
-
-same-length-3 : tie.Need-same-length-3 Inv-loop μ-loop
-same-length-3 c = search needs
+    let share = at-share .share-by-cut .ensures in
+    let more = putting-more _ _ _ _ (at-loop-test .before .loop .inv .0) (search needs) n (share .0 .needs) (share .1 .1) (search needs) in
+    (more, search needs, search needs, search needs)
 
 returns : tie.Need-returns Inv-loop μ-loop
 returns c = putting-end (c .before .loop .inv .0) (search needs)
@@ -120,7 +101,7 @@ put-blocks-spec =
     Inv-loop
     μ-loop
     loop-holds
-    cast-cut
+    (λ c. search needs)
     shared-slice-read-cut
     cast-cut-2
     mul-share-by-cut
@@ -129,10 +110,10 @@ put-blocks-spec =
     part-share-by-cut-end
     share-by-cut-requires
     add-at
-    add-b
-    loop-less
+    (λ c. search needs)
+    (λ c. search needs)
     loop-again
-    same-length
-    same-length-2
-    same-length-3
+    (λ c. search needs)
+    (λ c. search needs)
+    (λ c. search needs)
     returns)

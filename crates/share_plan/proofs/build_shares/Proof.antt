@@ -12,15 +12,6 @@ use Rattle.share_plan.proofs.build_shares.Tie as tie
 abbrev asked : tie.Start → Wanted
 asked s = wanted (s .args .engines) (s .args .services .now) (s .args .periods .now)
 
-measure-blocks-requires : tie.Need-measure-blocks-requires
-measure-blocks-requires c κs = search needs
-
-enum-known-measured : tie.Need-enum-known-measured
-enum-known-measured c = search needs
-
-enum-known-measured-2 : tie.Need-enum-known-measured-2
-enum-known-measured-2 c = search needs
-
 list-from-requires : tie.Need-list-from-requires
 list-from-requires c κs =
     let at = c .before .before .before .before in
@@ -30,27 +21,25 @@ returns : tie.Need-returns
 returns c =
     let at = c .before .before .before in
     let s = at .before .before .before .before in
-    gives-refused _ _ _ (none-listed (asked s) (at .measure-blocks .ensures) _ (c .before .measured .given .1) (length (s .args .list .now)))
-
-same-length : tie.Need-same-length
-same-length c = search needs
+    let room = length (s .args .list .now) in
+    gives-refused _ _ _ (none-listed (asked s) (at .measure-blocks .ensures) _ (c .before .measured .given .1) room)
 
 returns-2 : tie.Need-returns-2
 returns-2 c =
-    let at = c .before .before .before .before .before .before .before in
+    let known = c .before .before .before .before .before in
+    let at = known .before .before in
     let s = at .before .before .before .before in
-    gives-same
-    (listed-from (asked s) (at .measure-blocks .ensures) _ (c .before .before .before .before .before .measured2 .given .1) (length (s .args .list .now)))
+    gives-same (listed-from (asked s) (at .measure-blocks .ensures) _ (known .measured2 .given .1) (length (s .args .list .now)))
     (c .before .before .list-from .ensures)
 
 pub build-shares-spec : {M : Type 1} → statement M
 build-shares-spec =
     tie.close
     (tie.spec
-    measure-blocks-requires
-    enum-known-measured
-    enum-known-measured-2
+    (λ c κs. search needs)
+    (λ c. search needs)
+    (λ c. search needs)
     list-from-requires
     returns
-    same-length
+    (λ c. search needs)
     returns-2)

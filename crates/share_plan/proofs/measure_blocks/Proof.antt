@@ -10,8 +10,6 @@ use Rattle.duty_lists.proofs.AfterTests.{none-applies, sliceable}
 use Rattle.share_common.specs.declared.BlockCount.{BlockCount}
 use Rattle.share_common.specs.Common.{blocksOf, blocksAs}
 use Rattle.share_block.specs.Paced.{sharingBy}
-use Rattle.share_plan.specs.declared.Measured.the-variants.{Known}
-use Rattle.share_plan.specs.AfterCount.{Measures}
 use Rattle.share_plan.proofs.FromTests.{divided, not-taken, some-periods, not-counted, counted-blocks}
 use Rattle.share_plan.proofs.measure_blocks.Statement.{statement}
 use Rattle.share_plan.proofs.measure_blocks.Tie as tie
@@ -20,20 +18,14 @@ use Rattle.share_plan.proofs.measure_blocks.Tie as tie
 abbrev asked : tie.Start → Wanted
 asked s = wanted (s .args .engines) (s .args .services .now) (s .args .periods .now)
 
-take-duties-requires : tie.Need-take-duties-requires
-take-duties-requires c κs = search needs
-
-enum-known-verdict : tie.Need-enum-known-verdict
-enum-known-verdict c = search needs
-
 enum-told : tie.Need-enum-told
 enum-told c = search needs
 
-gcd-of-all-requires : tie.Need-gcd-of-all-requires
-gcd-of-all-requires c κs = search needs
-
 -- past the tests none of 1 to 5 applies
-takes : (c : tie.After-enum-told) → Taken (asked (c .before .before .before .before .before))
+abbrev begun : tie.After-enum-told → tie.Start
+begun c = c .before .before .before .before .before
+
+takes : (c : tie.After-enum-told) → Taken (asked (begun c))
 takes c = none-applies _ _ (c .before .before .take-duties .ensures) (c .enum-told .given .1)
 
 block-count-requires : tie.Need-block-count-requires
@@ -44,43 +36,40 @@ block-count-requires c κs =
 -- what 22 and 7 come to, for the periods' greatest common divisor
 told :
     (c : tie.After-block-count) (r : BlockCount) → c .block-count .result ≡ r
-    → (let x = asked (c .before .before .before .before .before .before .before) in
+    → (let x = asked (begun (c .before .before)) in
     blocksOf (sharingBy (gcdOf (x .periods)) (x .engines) (x .services) (x .periods)) ≡ blocksAs r)
 told c r e =
-    let x = asked (c .before .before .before .before .before .before .before) in
+    let x = asked (begun (c .before .before)) in
     ap (λ (t : ℕ). blocksOf (sharingBy t (x .engines) (x .services) (x .periods))) (sym (c .before .gcd-of-all .ensures))
     ∙ sym (c .block-count .ensures) ∙ ap blocksAs e
 
-enum-known-count : tie.Need-enum-known-count
-enum-known-count c = search needs
-
-enum-known-count-2 : tie.Need-enum-known-count-2
-enum-known-count-2 c = search needs
-
 returns : tie.Need-returns
 returns c =
-    not-taken (asked (c .before .before .before .before .before .before)) _ (c .before .before .before .take-duties .ensures) _ (c .before .verdict .given .1)
+    let taking = c .before .before .before in
+    not-taken (asked (taking .before .before .before)) _ (taking .take-duties .ensures) _ (c .before .verdict .given .1)
 
 returns-2 : tie.Need-returns-2
 returns-2 c =
-    not-counted _ (takes (c .before .before .before .before .before)) _ _ (told (c .before .before .before) _ (c .before .count .given .1))
+    let counting = c .before .before .before in
+    not-counted _ (takes (counting .before .before)) _ _ (told counting _ (c .before .count .given .1))
 
 returns-3 : tie.Need-returns-3
 returns-3 c =
-    rw (c .before .before .before .before .gcd-of-all .ensures)
-    (counted-blocks _ (takes (c .before .before .before .before .before)) _ (told (c .before .before .before) _ (c .before .count2 .given .1)))
+    let counting = c .before .before .before in
+    rw (counting .before .gcd-of-all .ensures)
+    (counted-blocks _ (takes (counting .before .before)) _ (told counting _ (c .before .count2 .given .1)))
 
 pub measure-blocks-spec : {M : Type 1} → statement M
 measure-blocks-spec =
     tie.close
     (tie.spec
-    take-duties-requires
-    enum-known-verdict
+    (λ c κs. search needs)
+    (λ c. search needs)
     enum-told
-    gcd-of-all-requires
+    (λ c κs. search needs)
     block-count-requires
-    enum-known-count
-    enum-known-count-2
+    (λ c. search needs)
+    (λ c. search needs)
     returns
     returns-2
     returns-3)

@@ -11,15 +11,6 @@ use Rattle.share_plan.proofs.share_question.Tie as tie
 abbrev asked : tie.Start → Wanted
 asked s = wanted (s .args .engines) (s .args .services .now) (s .args .periods .now)
 
-measure-blocks-requires : tie.Need-measure-blocks-requires
-measure-blocks-requires c κs = search needs
-
-enum-known-measured : tie.Need-enum-known-measured
-enum-known-measured c = search needs
-
-enum-known-measured-2 : tie.Need-enum-known-measured-2
-enum-known-measured-2 c = search needs
-
 held-from-requires : tie.Need-held-from-requires
 held-from-requires c κs =
     let at = c .before .before .before in
@@ -27,8 +18,9 @@ held-from-requires c κs =
 
 returns : tie.Need-returns
 returns c =
-    let s = c .before .before .before .before .before .before in
-    sym (none-asked (asked s) (c .before .before .before .measure-blocks .ensures) _ (c .before .measured .given .1) (s .args .engine) (s .args .tick))
+    let at = c .before .before .before in
+    let s = at .before .before .before in
+    sym (none-asked (asked s) (at .measure-blocks .ensures) _ (c .before .measured .given .1) (s .args .engine) (s .args .tick))
 
 returns-2 : tie.Need-returns-2
 returns-2 c =
@@ -41,9 +33,9 @@ pub share-question-spec : {M : Type 1} → statement M
 share-question-spec =
     tie.close
     (tie.spec
-    measure-blocks-requires
-    enum-known-measured
-    enum-known-measured-2
+    (λ c κs. search needs)
+    (λ c. search needs)
+    (λ c. search needs)
     held-from-requires
     returns
     returns-2)

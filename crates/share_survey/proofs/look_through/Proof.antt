@@ -4,51 +4,26 @@ use borrow.Author.Needs.{needs}
 use Rattle.share_survey.proofs.look_through.Statement.{statement}
 use Rattle.share_survey.proofs.look_through.Tie as tie
 
-begin-requires : tie.Need-begin-requires
-begin-requires c κs = search needs
-
 look-on-requires : tie.Need-look-on-requires
 look-on-requires c κs =
-    let at-begin = c .before .before .before .before .before .before .before .before .before .before .before .before .before .before .before in
-    let s = at-begin .before .before .before .before .before .before .before .before .before .before .before .before .before .before in
+    let lists = c .before .before .before .before .before .before .before in
+    let at-begin = lists .before .before .before .before .before .before .before .before in
+    let lent = at-begin .before .before .before .before .before .before .before in
+    let s = lent .before .before .before .before .before .before .before in
     let begun = at-begin .begin .ensures in
     ((s .pre .0 .0, s .pre .0 .1, s .pre .0 .2, s .pre .0 .3), ((s .pre .1 .1 .0, s .pre .1 .1 .1), (begun .0, begun .1)))
-
-same-length : tie.Need-same-length
-same-length c = search needs
-
-same-length-2 : tie.Need-same-length-2
-same-length-2 c = search needs
-
-same-length-3 : tie.Need-same-length-3
-same-length-3 c = search needs
-
-same-length-4 : tie.Need-same-length-4
-same-length-4 c = search needs
-
-same-length-5 : tie.Need-same-length-5
-same-length-5 c = search needs
-
-same-length-6 : tie.Need-same-length-6
-same-length-6 c = search needs
-
-same-length-7 : tie.Need-same-length-7
-same-length-7 c = search needs
-
-returns : tie.Need-returns
-returns c = search needs
 
 pub look-through-spec : {M : Type 1} → statement M
 look-through-spec =
     tie.close
     (tie.spec
-    begin-requires
+    (λ c κs. search needs)
     look-on-requires
-    same-length
-    same-length-2
-    same-length-3
-    same-length-4
-    same-length-5
-    same-length-6
-    same-length-7
-    returns)
+    (λ c. search needs)
+    (λ c. search needs)
+    (λ c. search needs)
+    (λ c. search needs)
+    (λ c. search needs)
+    (λ c. search needs)
+    (λ c. search needs)
+    (λ c. search needs))

@@ -1,4 +1,4 @@
--- `survey`: the lists have one entry for each duty, of at most 64.
+-- `survey`: the lists have one entry for each duty, of which there are few.
 -- Assumes nothing.
 use mathlib.Core.Path.{sym}
 use lib.Seq.{length-take-le}
@@ -30,9 +30,6 @@ array-borrow-prefix-part c = search needs
 slice-aggregate-look-through-4 : tie.Need-slice-aggregate-look-through-4
 slice-aggregate-look-through-4 c = sym (length-take-le _ _ (array-borrow-prefix-part (c .before)))
 
-slice-aggregate-look-through-5 : tie.Need-slice-aggregate-look-through-5
-slice-aggregate-look-through-5 c = search needs
-
 look-through-requires : tie.Need-look-through-requires
 look-through-requires c κs =
     let s = c .before .before .before .before .before .before .before .before .before .before .before in
@@ -49,15 +46,6 @@ look-through-requires c κs =
       ),
     )
 
-same-length : tie.Need-same-length
-same-length c = search needs
-
-same-length-2 : tie.Need-same-length-2
-same-length-2 c = search needs
-
-returns : tie.Need-returns
-returns c = search needs
-
 pub survey-spec : {M : Type 1} → statement M
 survey-spec =
     tie.close
@@ -70,8 +58,8 @@ survey-spec =
     slice-aggregate-look-through-3
     array-borrow-prefix-part
     slice-aggregate-look-through-4
-    slice-aggregate-look-through-5
+    (λ c. search needs)
     look-through-requires
-    same-length
-    same-length-2
-    returns)
+    (λ c. search needs)
+    (λ c. search needs)
+    (λ c. search needs))

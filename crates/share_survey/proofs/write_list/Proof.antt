@@ -1,4 +1,4 @@
--- `write_list`: the lists have one entry for each duty, of at most 64.
+-- `write_list`: the lists have one entry for each duty, of which there are few.
 -- Assumes nothing.
 use mathlib.Core.Path.{sym}
 use lib.Seq.{length-take-le}
@@ -46,12 +46,6 @@ write-through-requires c κs =
       ),
     )
 
-same-length : tie.Need-same-length
-same-length c = search needs
-
-returns : tie.Need-returns
-returns c = search needs
-
 pub write-list-spec : {M : Type 1} → statement M
 write-list-spec =
     tie.close
@@ -65,5 +59,5 @@ write-list-spec =
     array-borrow-prefix-part
     slice-aggregate-write-through-4
     write-through-requires
-    same-length
-    returns)
+    (λ c. search needs)
+    (λ c. search needs))
