@@ -1,37 +1,50 @@
 // What goes on over a boundary between blocks: the duties that an engine has at the end of a block and at the start of the next.
 ghost use mathlib.Core.Path.{_≡_};
-ghost use Prim.Native.Nat.{_≤_, _<_};
-ghost use Rattle.carried_over.specs.Carried.{carriesOf, carriedOf};
+ghost use Prim.Native.Nat.{_+_, _≤_};
+ghost use Rattle.paper.specs.Limits.{mostEngines};
+ghost use Rattle.paper.specs.Rotation.{firstOf};
+ghost use Rattle.row_edges.specs.Links.{linkOf};
+ghost use Rattle.carried_over.specs.Carried.{carriedOf, closesOf, carriedIn};
+use paper::Chain;
 use paper::Row;
-use rotation::chain_first;
-use row_edges::linked;
+use paper::limits::EDGES;
+use rotation::chain_of;
+use row_edges::first_edge;
+use row_edges::last_edge;
 use row_edges::same_duty;
 
-// Whether the duty at the end of a row goes on at the start of the next row of the row's engine.
-fn carries(starts: &[u32; 33], ends: &[u32; 33], row: Row) -> bool
-    requires { ⌜ row .0 < 32 ⌝ }
-    ensures { λ r. ⌜ r ≡ carriesOf (now (starts .entry)) (now (ends .entry)) (row .0) ⌝ }
+// Whether the duty at the end of a chain's last row goes on at the start of its first, to which that row's engine moves.
+fn closes(edges: &[u32; EDGES], chain: Chain) -> bool
+    requires { ⌜ (1 ≤ chain .length) × (chain .first .0 + chain .length ≤ mostEngines + 1) ⌝ }
+    ensures { λ r. ⌜ r ≡ closesOf (now (edges .entry)) chain ⌝ }
 {
-    if linked(starts, ends, row) {
-        return true;
-    }
-    let r = row.0 as usize;
-    let first = chain_first(starts, ends, row).0 as usize;
-    same_duty(ends[r], starts[first])
+    let last = chain.first.0 + chain.length - 1;
+    same_duty(last_edge(edges, Row(last)), first_edge(edges, chain.first))
 }
 
-// At how many rows a duty is carried over a boundary: those are no loads in any block but the first.
-pub fn carried(starts: &[u32; 33], ends: &[u32; 33], engines: u32) -> u32
-    requires { ⌜ engines ≤ 32 ⌝ }
-    ensures { λ r. ⌜ (r ≡ carriedOf (now (starts .entry)) (now (ends .entry)) engines) × (r ≤ engines) ⌝ }
+// At how many rows of a chain a duty is carried over a boundary: at each that another is chained to, and at the last where the chain
+// closes.
+fn carried_in(edges: &[u32; EDGES], chain: Chain) -> u32
+    requires { ⌜ (1 ≤ chain .length) × (chain .first .0 + chain .length ≤ mostEngines + 1) ⌝ }
+    ensures { λ r. ⌜ (r ≡ carriedIn (now (edges .entry)) chain) × (r ≤ chain .length) ⌝ }
+{
+    if closes(edges, chain) {
+        return chain.length;
+    }
+    chain.length - 1
+}
+
+// At how many rows a duty is carried over a boundary: those are no loads in any block but the first. The last row's chain ends with it.
+pub fn carried(edges: &[u32; EDGES], engines: u32) -> u32
+    requires { ⌜ (engines ≤ mostEngines) × (firstOf (linkOf (now edges)) engines ≡ engines) ⌝ }
+    ensures { λ r. ⌜ (r ≡ carriedOf (now (edges .entry)) engines) × (r ≤ engines) ⌝ }
 {
     let mut count: u32 = 0;
-    let mut r: u32 = 0;
-    while r < engines {
-        if carries(starts, ends, Row(r)) {
-            count += 1;
-        }
-        r += 1;
+    let mut first: u32 = 0;
+    while first < engines {
+        let chain = chain_of(edges, Row(first));
+        count += carried_in(edges, chain);
+        first += chain.length;
     }
     count
 }

@@ -1,53 +1,65 @@
-// The rows of all engines in a block, worked out from the block's number; and what a dispatcher's state, a block and its rows, comes to:
-// the block after it, the row of an engine, or a refusal with no state.
+// A dispatcher's state, a block and the rows of all engines in it, worked out from the block's number; and what a state comes to: the state
+// of the block after it, the row of an engine, or a refusal with no state.
 ghost use mathlib.Core.Path.{_≡_};
 ghost use Prim.Native.Nat.{_≤_};
 ghost use Rattle.laws.specs.Lists.{same-list};
-ghost use Rattle.paper.specs.Outcome.{refusedAs};
-ghost use Rattle.paper.specs.Answers.{Hands, rowAs};
+ghost use Rattle.paper.specs.Limits.{mostEngines};
+ghost use Rattle.paper.specs.Words.{rowNumbers};
+ghost use Rattle.paper.specs.Outcome.{answer, refusedAs};
+ghost use Rattle.paper.specs.Answers.{Hands, rowsAt, stateAt, isState, nextBy, rowBy, rowAs};
 ghost use Rattle.row_edges.specs.Links.{linkOf};
-ghost use Rattle.dispatch_state.specs.RowsBy.{rowsBy};
-ghost use Rattle.dispatch_state.specs.ByState.{stepAs, stepBy, rowBy};
+ghost use Rattle.rotation.specs.Turning.{IsTurned};
 use paper::Dispatched;
 use paper::Engine;
 use paper::Refusal;
+use paper::Row;
 use paper::RowTold;
 use paper::State;
 use paper::Verdict;
+use paper::limits::EDGES;
+use paper::limits::LAST_BLOCK;
+use paper::limits::MOST_ENGINES;
+use rotation::Turned;
 use rotation::row_in;
+use rotation::row_of;
+use rotation::turned_at;
 
-const MOST_ENGINES: usize = 32;
-
-const LAST_BLOCK: u64 = 18446744073709551615;
-
-// The block after a state's, or why there is none.
-pub enum Step {
-    To(u64),
-    Refused(Refusal),
+// The chain of a row in a block, where that of an earlier row is known: the same, or the next.
+fn onward(edges: &[u32; EDGES], block: u64, turned: Turned, row: Row) -> Turned
+    requires { ⌜ (turned .chain .first .0 ≤ row .0) × (row .0 ≤ mostEngines) ⌝ }
+    requires { ⌜ IsTurned (linkOf (now edges)) block (turned .chain .first .0) turned ⌝ }
+    ensures { λ r. ⌜ IsTurned (linkOf (now (edges .entry))) block (row .0) r ⌝ }
+{
+    if row.0 < turned.chain.first.0 + turned.chain.length {
+        return turned;
+    }
+    turned_at(edges, row, block)
 }
 
-// The rows of all engines in a block, by what holds the first and the last unit of each row.
-pub fn rows_at(engines: u32, starts: &[u32; 33], ends: &[u32; 33], block: u64) -> [u32; 32]
-    requires { ⌜ engines ≤ 32 ⌝ }
-    ensures { λ r. ⌜ r ≡ rowsBy (linkOf (now (starts .entry)) (now (ends .entry))) engines block ⌝ }
+// The rows of all engines in a block: one chain after the other, each found once.
+fn rows_at(edges: &[u32; EDGES], engines: u32, block: u64) -> [Row; MOST_ENGINES]
+    requires { ⌜ engines ≤ mostEngines ⌝ }
+    ensures { λ r. ⌜ r ≡ rowsAt (linkOf (now (edges .entry))) engines block ⌝ }
 {
-    let mut rows = [0u32; 32];
+    let mut rows = [Row(0); MOST_ENGINES];
+    let mut turned = turned_at(edges, Row(0), block);
     let mut i: u32 = 0;
     while i < engines {
+        turned = onward(edges, block, turned, Row(i));
         let at = i as usize;
-        rows[at] = row_in(starts, ends, Engine(i), block).0;
+        rows[at] = row_of(turned, Engine(i));
         i += 1;
     }
     rows
 }
 
 // Whether two lists of rows are the same.
-fn same_rows(a: [u32; 32], b: [u32; 32]) -> bool
-    ensures { λ r. ⌜ r ≡ same-list a b ⌝ }
+fn same_rows(a: [Row; MOST_ENGINES], b: [Row; MOST_ENGINES]) -> bool
+    ensures { λ r. ⌜ r ≡ same-list (rowNumbers a) (rowNumbers b) ⌝ }
 {
     let mut i = 0;
     while i < MOST_ENGINES {
-        if a[i] != b[i] {
+        if a[i].0 != b[i].0 {
             return false;
         }
         i += 1;
@@ -55,52 +67,64 @@ fn same_rows(a: [u32; 32], b: [u32; 32]) -> bool
     true
 }
 
-// Whether a block's rows are these.
-fn is_own(engines: u32, starts: &[u32; 33], ends: &[u32; 33], block: u64, rows: [u32; 32]) -> bool
-    requires { ⌜ engines ≤ 32 ⌝ }
-    ensures { λ r. ⌜ r ≡ same-list rows (rowsBy (linkOf (now (starts .entry)) (now (ends .entry))) engines block) ⌝ }
+// Whether a state is the one for its block.
+fn is_own(edges: &[u32; EDGES], engines: u32, s: State) -> bool
+    requires { ⌜ engines ≤ mostEngines ⌝ }
+    ensures { λ r. ⌜ r ≡ isState (linkOf (now (edges .entry))) engines s ⌝ }
 {
-    same_rows(rows, rows_at(engines, starts, ends, block))
+    let rows = s.rows;
+    same_rows(rows, rows_at(edges, engines, s.block))
 }
 
-// The block after a state's.
-pub fn advance(
-    engines: u32,
-    starts: &[u32; 33],
-    ends: &[u32; 33],
-    block: u64,
-    rows: [u32; 32],
-) -> Step
-    requires { ⌜ engines ≤ 32 ⌝ }
-    ensures { λ r. ⌜ stepAs r ≡ stepBy (linkOf (now (starts .entry)) (now (ends .entry))) engines block rows ⌝ }
+// The state of a block.
+pub fn state_at(edges: &[u32; EDGES], engines: u32, block: u64) -> Dispatched
+    requires { ⌜ engines ≤ mostEngines ⌝ }
+    ensures { λ r. ⌜ Hands (answer (stateAt (linkOf (now (edges .entry))) engines block)) r ⌝ }
 {
-    if !is_own(engines, starts, ends, block, rows) {
-        return Step::Refused(Refusal {
+    let rows = rows_at(edges, engines, block);
+    Dispatched {
+        verdict: Verdict::Done,
+        state: State { block, rows },
+    }
+}
+
+// A refusal, with a state that is none.
+pub fn refuse(why: Refusal) -> Dispatched
+    ensures { λ r. ⌜ Hands (refusedAs why) r ⌝ }
+{
+    let rows = [Row(0); MOST_ENGINES];
+    Dispatched {
+        verdict: Verdict::Refused(why),
+        state: State { block: 0, rows },
+    }
+}
+
+// The state of the block after a state's.
+pub fn advance(edges: &[u32; EDGES], engines: u32, s: State) -> Dispatched
+    requires { ⌜ engines ≤ mostEngines ⌝ }
+    ensures { λ r. ⌜ Hands (nextBy (linkOf (now (edges .entry))) engines s) r ⌝ }
+{
+    if !is_own(edges, engines, s) {
+        return refuse(Refusal {
             number: 20,
             place: 0,
         });
     }
+    let block = s.block;
     if block == LAST_BLOCK {
-        return Step::Refused(Refusal {
+        return refuse(Refusal {
             number: 21,
             place: 0,
         });
     }
     let next = block + 1;
-    Step::To(next)
+    state_at(edges, engines, next)
 }
 
 // The row of an engine by a state.
-pub fn tell(
-    engines: u32,
-    starts: &[u32; 33],
-    ends: &[u32; 33],
-    block: u64,
-    rows: [u32; 32],
-    engine: Engine,
-) -> RowTold
-    requires { ⌜ engines ≤ 32 ⌝ }
-    ensures { λ r. ⌜ rowAs r ≡ rowBy (linkOf (now (starts .entry)) (now (ends .entry))) engines block rows engine ⌝ }
+pub fn tell(edges: &[u32; EDGES], engines: u32, s: State, engine: Engine) -> RowTold
+    requires { ⌜ engines ≤ mostEngines ⌝ }
+    ensures { λ r. ⌜ rowAs r ≡ rowBy (linkOf (now (edges .entry))) engines s engine ⌝ }
 {
     if engines <= engine.0 {
         return RowTold::Refused(Refusal {
@@ -108,22 +132,11 @@ pub fn tell(
             place: 0,
         });
     }
-    if !is_own(engines, starts, ends, block, rows) {
+    if !is_own(edges, engines, s) {
         return RowTold::Refused(Refusal {
             number: 20,
             place: 0,
         });
     }
-    RowTold::At(row_in(starts, ends, engine, block))
-}
-
-// A refusal, with a state that is none.
-pub fn refuse(why: Refusal) -> Dispatched
-    ensures { λ r. ⌜ Hands (refusedAs why) r ⌝ }
-{
-    let rows = [0u32; 32];
-    Dispatched {
-        verdict: Verdict::Refused(why),
-        state: State { block: 0, rows },
-    }
+    RowTold::At(row_in(edges, engine, s.block))
 }

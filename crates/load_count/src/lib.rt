@@ -2,40 +2,42 @@
 // over blocks or ticks.
 ghost use mathlib.Core.Path.{_≡_};
 ghost use Prim.Native.Nat.{_+_, _-_, _*_, _≤_};
-ghost use Rattle.paper.specs.Answers.{countAs, mostBlocks};
-ghost use Rattle.carried_over.specs.Carried.{carriedOf};
-ghost use Rattle.load_count.specs.ByRuns.{loadsBy, countBy};
+ghost use Rattle.paper.specs.Limits.{mostBlocks, mostRuns};
+ghost use Rattle.paper.specs.Walk.{loads};
+ghost use Rattle.paper.specs.Answers.{countOf, countAs};
+ghost use Rattle.record_read.specs.Formed.{tableOf};
+ghost use Rattle.table_tally.specs.Ready.{Ready};
 use carried_over::carried;
 use paper::Counted;
 use paper::Reading;
 use paper::Refusal;
-
-const MOST_BLOCKS: u64 = 1000000000000;
+use paper::limits::EDGES;
+use paper::limits::MOST_BLOCKS;
 
 // The loads of some blocks: so many in the first, and in each later one but for those that are kept over the boundary.
 fn over_blocks(blocks: u64, loads: u64, kept: u64) -> u64
-    requires { ⌜ (1 ≤ blocks) × (blocks ≤ mostBlocks) × (loads ≤ 128) × (kept ≤ loads) ⌝ }
+    requires { ⌜ (1 ≤ blocks) × (blocks ≤ mostBlocks) × (loads ≤ mostRuns) × (kept ≤ loads) ⌝ }
     ensures { λ r. ⌜ r ≡ loads + (blocks - 1) * (loads - kept) ⌝ }
 {
     loads + (blocks - 1) * (loads - kept)
 }
 
-// The loads of the first blocks of a table: in the first there is one for each run.
-fn loads_in(rd: Reading, starts: &[u32; 33], ends: &[u32; 33], blocks: u64) -> u64
-    requires { ⌜ (blocks ≤ mostBlocks) × (rd .engines ≤ 32) × (rd .runs ≤ 128) × (carriedOf (now starts) (now ends) (rd .engines) ≤ rd .runs) ⌝ }
-    ensures { λ r. ⌜ r ≡ loadsBy (rd .runs) (carriedOf (now (starts .entry)) (now (ends .entry)) (rd .engines)) blocks ⌝ }
+// The loads of the first blocks of the table in these bytes (which only the contract names): in the first there is one for each run.
+fn loads_in(b: &[u8], rd: Reading, edges: &[u32; EDGES], blocks: u64) -> u64
+    requires { ⌜ Ready (now b) rd (now edges) × (blocks ≤ mostBlocks) ⌝ }
+    ensures { λ r. ⌜ r ≡ loads (tableOf (now (b .entry)) rd) blocks ⌝ }
 {
     if blocks == 0 {
         return 0;
     }
-    let kept = carried(starts, ends, rd.engines) as u64;
+    let kept = carried(edges, rd.engines) as u64;
     over_blocks(blocks, rd.runs as u64, kept)
 }
 
 // The count, or that there are too many blocks.
-pub fn count_in(rd: Reading, starts: &[u32; 33], ends: &[u32; 33], blocks: u64) -> Counted
-    requires { ⌜ (rd .engines ≤ 32) × (rd .runs ≤ 128) × (carriedOf (now starts) (now ends) (rd .engines) ≤ rd .runs) ⌝ }
-    ensures { λ r. ⌜ countAs r ≡ countBy (rd .runs) (carriedOf (now (starts .entry)) (now (ends .entry)) (rd .engines)) blocks ⌝ }
+pub fn count_in(b: &[u8], rd: Reading, edges: &[u32; EDGES], blocks: u64) -> Counted
+    requires { ⌜ Ready (now b) rd (now edges) ⌝ }
+    ensures { λ r. ⌜ countAs r ≡ countOf (tableOf (now (b .entry)) rd) blocks ⌝ }
 {
     if MOST_BLOCKS < blocks {
         return Counted::Refused(Refusal {
@@ -43,5 +45,5 @@ pub fn count_in(rd: Reading, starts: &[u32; 33], ends: &[u32; 33], blocks: u64) 
             place: 0,
         });
     }
-    Counted::Loads(loads_in(rd, starts, ends, blocks))
+    Counted::Loads(loads_in(b, rd, edges, blocks))
 }

@@ -5,7 +5,7 @@ use Rattle.dispatch_state.proofs.is_own.Statement.{statement}
 use Rattle.dispatch_state.proofs.is_own.Tie as tie
 
 rows-at-requires : tie.Need-rows-at-requires
-rows-at-requires c κs = c .pre
+rows-at-requires c κs = search needs
 
 same-rows-requires : tie.Need-same-rows-requires
 same-rows-requires c κs = search needs

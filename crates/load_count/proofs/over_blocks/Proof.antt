@@ -1,16 +1,16 @@
--- `over_blocks`: the product is at most 10^12 times 128, so nothing wraps.
+-- `over_blocks`: the product is at most as many blocks as there may be times as many runs, so nothing wraps.
 -- Assumes nothing.
 use Prim.Native.Nat.{_-_, _*_, _≤_}
 use native.Mathlib.Nat.{mul-le-mul}
 use native.Mathlib.Omega.{arith}
 use borrow.Author.Needs.{needs}
-use Rattle.paper.specs.Answers.{mostBlocks}
+use Rattle.paper.specs.Limits.{mostBlocks, mostRuns}
 use Rattle.load_count.proofs.over_blocks.Statement.{statement}
 use Rattle.load_count.proofs.over_blocks.Tie as tie
 
 -- the loads after the first block fit 64 bits
-fits : (c : tie.Start) → (c .args .blocks - 1) * (c .args .loads - c .args .kept) ≤ mostBlocks * 128
-fits c = mul-le-mul {n₂ = mostBlocks} {m₂ = 128} (omega arith) (omega arith)
+fits : (c : tie.Start) → (c .args .blocks - 1) * (c .args .loads - c .args .kept) ≤ mostBlocks * mostRuns
+fits c = mul-le-mul {n₂ = mostBlocks} {m₂ = mostRuns} (omega arith) (omega arith)
 
 sub-result : tie.Need-sub-result
 sub-result c = search needs

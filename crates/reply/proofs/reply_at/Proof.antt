@@ -7,7 +7,7 @@ use native.Mathlib.Omega.{arith}
 use mir.Syntax.{w32}
 use mir.Val.{Fits}
 use borrow.Author.Needs.{needs}
-use Rattle.paper.specs.Bytes.{mostTicks}
+use Rattle.paper.specs.Limits.{mostTicks}
 use Rattle.reply.proofs.Replying.{reply-none, reply-is}
 use Rattle.reply.proofs.reply_at.Statement.{statement}
 use Rattle.reply.proofs.reply_at.Tie as tie
@@ -19,7 +19,7 @@ unit-fits k t l m = omega (arith, mod-lt k {m = t} l)
 returns : tie.Need-returns
 returns c =
     let start = c .before .before .before .before in
-    sym (reply-none (start .args .engine) (start .args .tick) (start .pre .0) (search needs))
+    sym (reply-none (start .pre) (start .args .engine) (start .args .tick) (search needs))
 
 cast-t : tie.Need-cast-t
 cast-t c = search needs
@@ -35,7 +35,7 @@ rem-held c = search needs
 
 cast-held : tie.Need-cast-held
 cast-held c =
-    let F = c .before .before .before .before .before .before .pre .0 in
+    let F = c .before .before .before .before .before .before .pre .formed in
     unit-fits _ _ (F .ticks-least) (F .ticks-most)
 
 held-requires : tie.Need-held-requires
@@ -44,7 +44,7 @@ held-requires c κs = search needs
 returns-2 : tie.Need-returns-2
 returns-2 c =
     let start = c .before .before .before .before .before .before .before in
-    reply-is (start .args .engine) (start .args .tick) (start .pre .0) (start .pre .1) (search needs) (c .before .row-in .ensures) (c .held .ensures)
+    reply-is (start .pre) (start .args .engine) (start .args .tick) (search needs) (c .before .row-in .ensures) (c .held .ensures)
 
 pub reply-at-spec : {M : Type 1} → statement M
 reply-at-spec =

@@ -3,18 +3,19 @@
 use Prim.Native.Nat.{_-_, _≤_}
 use mathlib.Core.Path.{_≡_, sym, _∙_}
 use borrow.Author.Needs.{needs}
+use Rattle.paper.specs.Limits.{mostEngines}
 use Rattle.paper.specs.Rotation.{firstOf}
-use Rattle.paper.proofs.Rotation.{first-on}
+use Rattle.walk_laws.proofs.Page.{first-on}
 use Rattle.row_edges.specs.Links.{linkOf}
 use Rattle.row_edges.proofs.Linking.{link-past}
 use Rattle.rotation.proofs.chain_last.Statement.{statement}
 use Rattle.rotation.proofs.chain_last.Tie as tie
 
 abbrev Inv-loop : tie.InvT-loop
-Inv-loop starts ends r₀ r = (r₀ ≤ r) × (r ≤ 32) × (firstOf (linkOf starts ends) r ≡ firstOf (linkOf starts ends) r₀)
+Inv-loop edges r₀ r = (r₀ ≤ r) × (r ≤ mostEngines) × (firstOf (linkOf edges) r ≡ firstOf (linkOf edges) r₀)
 
 abbrev μ-loop : tie.MeasureT-loop
-μ-loop starts ends r₀ r = 32 - r
+μ-loop edges r₀ r = mostEngines - r
 
 loop-holds : tie.Need-loop-holds Inv-loop μ-loop
 loop-holds c = search needs
@@ -41,7 +42,7 @@ returns c =
     record { after = search needs; most = search needs; chained = loop .inv .2; ends = sym (linked .ensures) ∙ c .if1 .left }
 
 returns-2 : tie.Need-returns-2 Inv-loop μ-loop
-returns-2 c = record { after = search needs; most = search needs; chained = c .before .loop .inv .2; ends = link-past _ _ (search needs) }
+returns-2 c = record { after = search needs; most = search needs; chained = c .before .loop .inv .2; ends = link-past _ (search needs) }
 
 pub chain-last-spec : {M : Type 1} → statement M
 chain-last-spec =

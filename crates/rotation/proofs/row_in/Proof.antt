@@ -1,36 +1,22 @@
--- `row_in`: the closed form of the rotation, by the first and the last row of the chain.
+-- `row_in`: the closed form of the rotation, by the engine's chain in the block.
 -- Assumes nothing.
-use Prim.Native.Nat.{ℕ}
 use mathlib.Core.Path.{_≡_, sym, ap, _∙_}
-use mathlib.Core.Bool.{Bool}
+use native.Mathlib.Nat.{mod-lt}
+use native.Mathlib.Omega.{arith}
+use Rattle.rotation.specs.Turning.{round}
+use Rattle.rotation.proofs.Turns.{places-few, row-turned}
 use borrow.Author.Needs.{needs}
-use Rattle.paper.specs.Duties.{engine}
-use Rattle.paper.specs.Words.{row}
-use Rattle.paper.specs.Rotation.{firstOf, rowAt}
-use Rattle.walk_laws.proofs.Chains.{in-chain, row-reduced}
-use Rattle.rotation.specs.Chains.{IsLast, round}
 use Rattle.rotation.proofs.row_in.Statement.{statement}
 use Rattle.rotation.proofs.row_in.Tie as tie
 
--- the row that an engine runs, by the first and the last row of its chain: no large number is added
-row-by-ends : (c : ℕ → Bool) (b : ℕ) {e first last : ℕ} → first ≡ firstOf c e → IsLast c e last
-    → round first last e b ≡ rowAt c b (engine e)
-row-by-ends c b {e} {first} {last} p i =
-    let z = row-reduced c b (in-chain c (i .after) (i .chained) (i .ends)) in
-    ap row (rw p (sym z))
+turned-at-requires : tie.Need-turned-at-requires
+turned-at-requires c κs = search needs
 
-chain-first-requires : tie.Need-chain-first-requires
-chain-first-requires c κs = search needs
-
-chain-last-requires : tie.Need-chain-last-requires
-chain-last-requires c κs = search needs
-
-further-requires : tie.Need-further-requires
-further-requires c κs = search needs
+row-of-requires : tie.Need-row-of-requires
+row-of-requires c κs = let t = c .turned-at .ensures in (omega (arith, t), omega (arith, t, places-few t))
 
 returns : tie.Need-returns
-returns c = c .further .ensures ∙ row-by-ends _ (c .before .before .before .args .block) (c .before .before .chain-first .ensures .0) (c .before .chain-last .ensures)
+returns c = c .row-of .ensures ∙ row-turned (c .before .turned-at .ensures)
 
 pub row-in-spec : {M : Type 1} → statement M
-row-in-spec =
-    tie.close (tie.spec chain-first-requires chain-last-requires further-requires returns)
+row-in-spec = tie.close (tie.spec turned-at-requires row-of-requires returns)

@@ -1,47 +1,38 @@
 -- `Dispatcher::next`: judged first; then the state after this one.
 -- Assumes nothing.
+use Rattle.paper.proofs.Calls.{hands-same}
+use Rattle.judge.proofs.Asked.{ready-read, asked-links, asked-refused}
+use Rattle.paper.specs.Answers.{nextBy}
 use borrow.Author.Needs.{needs}
-use Rattle.paper.specs.Answers.{advanced}
-use Rattle.judge.proofs.Asked.{asked-refused}
-use Rattle.asked.proofs.Unpacked.{engines-most}
-use Rattle.asked.proofs.Rows.{hands-same, next-by}
 use Rattle.asked.proofs.Dispatcher.next.Statement.{statement}
 use Rattle.asked.proofs.Dispatcher.next.Tie as tie
 
-rule-on-requires : tie.Need-rule-on-requires
-rule-on-requires c κs = search needs
-
-enum-known-judged : tie.Need-enum-known-judged
-enum-known-judged c = search needs
-
-next-of-requires : tie.Need-next-of-requires
-next-of-requires c κs = search engines-most
-
-enum-known-judged-2 : tie.Need-enum-known-judged-2
-enum-known-judged-2 c = search needs
-
-refusal-of-requires : tie.Need-refusal-of-requires
-refusal-of-requires c κs = search needs
-
-refuse-requires : tie.Need-refuse-requires
-refuse-requires c κs = search needs
+advance-requires : tie.Need-advance-requires
+advance-requires c κs =
+    let rule-on = c .before .before .before .before .before .rule-on in
+    rule-on .ensures .ready _
+    (c .before .before .judged .given .1) .formed .engines-most
 
 returns : tie.Need-returns
-returns c = search (hands-same, next-by)
+returns c =
+    let rule-on = c .before .before .before .before .before .before .rule-on in
+    let here = c .before .before .before .before .before .before .before .before .before .args .self .0 in
+    hands-same (c .advance .ensures)
+    (asked-links (rule-on .ensures) (λ l m. nextBy l m here)
+    (c .before .before .before .judged .given .1))
 
 returns-2 : tie.Need-returns-2
-unfolding advanced
-returns-2 c = search (hands-same, asked-refused)
+returns-2 c = hands-same (c .refuse .ensures) (search asked-refused)
 
 pub next-spec : {M : Type 1} → statement M
 next-spec =
     tie.close
     (tie.spec
-    rule-on-requires
-    enum-known-judged
-    next-of-requires
-    enum-known-judged-2
-    refusal-of-requires
-    refuse-requires
+    (λ c κs. search needs)
+    (λ c. search needs)
+    advance-requires
+    (λ c. search needs)
+    (λ c κs. search needs)
+    (λ c κs. search needs)
     returns
     returns-2)

@@ -1,47 +1,39 @@
 -- `Dispatcher::start`: judged first; then the state of the block.
 -- Assumes nothing.
+use Rattle.paper.proofs.Calls.{hands-same}
+use Rattle.judge.proofs.Asked.{ready-read, asked-links, asked-refused}
+use Rattle.paper.specs.Outcome.{answer}
+use Rattle.paper.specs.Answers.{stateAt}
 use borrow.Author.Needs.{needs}
-use Rattle.paper.specs.Answers.{start}
-use Rattle.judge.proofs.Asked.{asked-refused}
-use Rattle.asked.proofs.Unpacked.{engines-most}
-use Rattle.asked.proofs.Rows.{hands-same, start-by}
 use Rattle.asked.proofs.Dispatcher.start.Statement.{statement}
 use Rattle.asked.proofs.Dispatcher.start.Tie as tie
 
-rule-on-requires : tie.Need-rule-on-requires
-rule-on-requires c κs = search needs
-
-enum-known-judged : tie.Need-enum-known-judged
-enum-known-judged c = search needs
-
-done-requires : tie.Need-done-requires
-done-requires c κs = search engines-most
-
-enum-known-judged-2 : tie.Need-enum-known-judged-2
-enum-known-judged-2 c = search needs
-
-refusal-of-requires : tie.Need-refusal-of-requires
-refusal-of-requires c κs = search needs
-
-refuse-requires : tie.Need-refuse-requires
-refuse-requires c κs = search needs
+state-at-requires : tie.Need-state-at-requires
+state-at-requires c κs =
+    let rule-on = c .before .before .before .before .before .rule-on in
+    rule-on .ensures .ready _
+    (c .before .before .judged .given .1) .formed .engines-most
 
 returns : tie.Need-returns
-returns c = search (hands-same, start-by)
+returns c =
+    let rule-on = c .before .before .before .before .before .before .rule-on in
+    let block = c .before .before .before .before .before .before .before .before .args .block in
+    hands-same (c .state-at .ensures)
+    (asked-links (rule-on .ensures) (λ l m. answer (stateAt l m block))
+    (c .before .before .before .judged .given .1))
 
 returns-2 : tie.Need-returns-2
-unfolding start
-returns-2 c = search (hands-same, asked-refused)
+returns-2 c = hands-same (c .refuse .ensures) (search asked-refused)
 
 pub start-spec : {M : Type 1} → statement M
 start-spec =
     tie.close
     (tie.spec
-    rule-on-requires
-    enum-known-judged
-    done-requires
-    enum-known-judged-2
-    refusal-of-requires
-    refuse-requires
+    (λ c κs. search needs)
+    (λ c. search needs)
+    state-at-requires
+    (λ c. search needs)
+    (λ c κs. search needs)
+    (λ c κs. search needs)
     returns
     returns-2)

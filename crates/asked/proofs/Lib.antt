@@ -1,3 +1,0 @@
-mod Unpacked
-mod Rows
-mod Counting

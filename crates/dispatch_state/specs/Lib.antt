@@ -1,2 +1,0 @@
-pub mod RowsBy
-pub mod ByState
