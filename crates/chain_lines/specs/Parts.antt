@@ -1,19 +1,15 @@
--- The parts of a plan's text that follow from a table, by the edges of its rows, m engines and how many runs there are.
-use Prim.Native.Nat.{ℕ, _-_}
-use mathlib.Core.List.{List, [], _∷_, _++_}
+-- The parts of a plan's text that follow from a table: a line for each chain, and one for the loads.
+use Prim.Native.Nat.{ℕ}
+use mathlib.Core.Bool.{Bool}
+use mathlib.Core.List.{List, _++_}
 use Rattle.laws.specs.Lists.{flat}
-use Rattle.paper.specs.Rotation.{chainsBelow}
-use Rattle.paper.specs.Text.{printLine, loadsWord, chainLine}
-use Rattle.row_edges.specs.Links.{linkOf}
-use Rattle.carried_over.specs.Carried.{carriedOf}
+use Rattle.paper.specs.Words.{Table}
+use Rattle.paper.specs.Rotation.{chainsBelow, chains}
+use Rattle.paper.specs.Text.{chainLine, loadsLine}
 
--- a line for each chain
-abbrev pub chainLinesBy : (starts ends : List ℕ) → ℕ → List ℕ
-chainLinesBy starts ends m = flat chainLine (chainsBelow (linkOf starts ends) m m)
+-- of the chains that begin below row k, of m rows with links c
+abbrev pub linesBelow : (ℕ → Bool) → ℕ → ℕ → List ℕ
+linesBelow c m k = flat chainLine (chainsBelow c m k)
 
--- the loads: in block 0 one for each run, in a later block those but for the carried
-abbrev pub loadsLineBy : (starts ends : List ℕ) → (m runs : ℕ) → List ℕ
-loadsLineBy starts ends m runs = printLine loadsWord (runs ∷ (runs - carriedOf starts ends m) ∷ [])
-
-unfoldable pub rotationLinesBy : (starts ends : List ℕ) → (m runs : ℕ) → List ℕ
-rotationLinesBy starts ends m runs = chainLinesBy starts ends m ++ loadsLineBy starts ends m runs
+abbrev pub rotationLines : Table → List ℕ
+rotationLines t = flat chainLine (chains t) ++ loadsLine t

@@ -5,6 +5,8 @@ ghost use mathlib.Core.List.{_∷_};
 ghost use Prim.Native.Nat.{_≤_};
 ghost use lib.ListN.{length};
 ghost use Rattle.laws.specs.Lists.{over};
+ghost use Rattle.paper.specs.Limits.{readingRoom, replyRoom, shareReadingRoom, stateRoom};
+ghost use Rattle.paper.specs.Words.{rowNumbers};
 ghost use Rattle.paper.specs.Outcome.{verdictAs};
 ghost use Rattle.paper.specs.Face.{Tells, entries, readingEntries, replyEntries, stateEntries, shareReadingEntries};
 ghost use Rattle.face_entries.specs.InWord.{InWord};
@@ -15,13 +17,15 @@ use face_words::word_of;
 use paper::Dispatched;
 use paper::Reading;
 use paper::Reply;
+use paper::Row;
 use paper::ShareReading;
 use paper::State;
 use paper::Verdict;
+use paper::limits::MOST_ENGINES;
 
 // A table's reading put into a lent answer: block length, engines, duties, runs.
 pub fn put_reading(answer: &mut [u64], rd: Reading)
-    requires { ⌜ 4 ≤ length (now answer) ⌝ }
+    requires { ⌜ readingRoom ≤ length (now answer) ⌝ }
     ensures { λ r. ⌜ now (answer .exit) ≡ over (readingEntries rd) (now (answer .entry)) ⌝ }
 {
     answer[0] = rd.block_length as u64;
@@ -32,7 +36,7 @@ pub fn put_reading(answer: &mut [u64], rd: Reading)
 
 // A reply put into a lent answer: the row, and the duty or the mark for idle.
 pub fn put_reply(answer: &mut [u64], reply: Reply)
-    requires { ⌜ 2 ≤ length (now answer) ⌝ }
+    requires { ⌜ replyRoom ≤ length (now answer) ⌝ }
     ensures { λ r. ⌜ now (answer .exit) ≡ over (replyEntries reply) (now (answer .entry)) ⌝ }
 {
     let held = reply.held;
@@ -42,7 +46,7 @@ pub fn put_reply(answer: &mut [u64], reply: Reply)
 
 // What is told of a plan of shares put into a lent answer: entries, block length, blocks.
 pub fn put_share_reading(answer: &mut [u64], rd: ShareReading)
-    requires { ⌜ 3 ≤ length (now answer) ⌝ }
+    requires { ⌜ shareReadingRoom ≤ length (now answer) ⌝ }
     ensures { λ r. ⌜ now (answer .exit) ≡ over (shareReadingEntries rd) (now (answer .entry)) ⌝ }
 {
     answer[0] = rd.entries as u64;
@@ -52,13 +56,13 @@ pub fn put_share_reading(answer: &mut [u64], rd: ShareReading)
 
 // The state in a lent list; an entry too large for a row becomes a number that no row has.
 pub fn state_in(state: &[u64]) -> State
-    requires { ⌜ 33 ≤ length (now state) ⌝ }
+    requires { ⌜ stateRoom ≤ length (now state) ⌝ }
     ensures { λ r. ⌜ r ≡ cutState (now (state .entry)) ⌝ }
 {
-    let mut rows = [0u32; 32];
+    let mut rows = [Row(0); MOST_ENGINES];
     let mut e = 0;
-    while e < 32 {
-        rows[e] = narrow(state[e + 1]);
+    while e < MOST_ENGINES {
+        rows[e] = Row(narrow(state[e + 1]));
         e += 1;
     }
     let block = state[0];
@@ -66,21 +70,22 @@ pub fn state_in(state: &[u64]) -> State
 }
 
 // A block and its rows put into a lent state.
-pub fn put_state(state: &mut [u64], block: u64, rows: [u32; 32])
-    requires { ⌜ 33 ≤ length (now state) ⌝ }
-    ensures { λ r. ⌜ now (state .exit) ≡ over (block ∷ rows) (now (state .entry)) ⌝ }
+pub fn put_state(state: &mut [u64], block: u64, rows: [Row; MOST_ENGINES])
+    requires { ⌜ stateRoom ≤ length (now state) ⌝ }
+    ensures { λ r. ⌜ now (state .exit) ≡ over (block ∷ rowNumbers rows) (now (state .entry)) ⌝ }
 {
     state[0] = block;
     let mut e = 0;
-    while e < 32 {
-        state[e + 1] = rows[e] as u64;
+    while e < MOST_ENGINES {
+        let row = rows[e];
+        state[e + 1] = row.0 as u64;
         e += 1;
     }
 }
 
 // What a dispatcher hands back as a word, and as the entries of its state where it is done.
 pub fn hand_over(done: Dispatched, state: &mut [u64]) -> u64
-    requires { ⌜ InWord (done .verdict) × (33 ≤ length (now state)) ⌝ }
+    requires { ⌜ InWord (done .verdict) × (stateRoom ≤ length (now state)) ⌝ }
     ensures { λ r. ⌜ Tells (entries stateEntries (verdictAs (done .verdict) (done .state))) r (now (state .entry)) (now (state .exit)) ⌝ }
 {
     let verdict = done.verdict;

@@ -2,10 +2,12 @@
 // tick as an entry.
 ghost use mathlib.Core.Path.{_≡_};
 ghost use Prim.Native.Nat.{_+_, _*_, _≤_, _<_, min};
-ghost use Rattle.paper.specs.Outcome.{mostPlace};
+ghost use Rattle.paper.specs.Limits.{mostPlace, noRow};
 ghost use Rattle.paper.specs.Face.{heldEntry};
 use paper::Held;
 use paper::Refusal;
+use paper::limits::IDLE;
+use paper::limits::NO_ROW;
 
 // A refusal as a word.
 pub fn word_of(why: Refusal) -> u64
@@ -28,9 +30,9 @@ pub fn too_short(needed: usize) -> u64
 
 // An entry of a lent state as a row number; one that is too large becomes a number that no row has.
 pub fn narrow(x: u64) -> u32
-    ensures { λ r. ⌜ r ≡ min x 4294967295 ⌝ }
+    ensures { λ r. ⌜ r ≡ min x noRow ⌝ }
 {
-    if x < 4294967295 { x as u32 } else { 4294967295 }
+    if x < NO_ROW as u64 { x as u32 } else { NO_ROW }
 }
 
 // What holds a tick as one entry: the duty, or the mark for idle.
@@ -39,6 +41,6 @@ pub fn held_entry(held: Held) -> u64
 {
     match held {
         Held::By(duty) => duty as u64,
-        Held::Idle => 18446744073709551615,
+        Held::Idle => IDLE,
     }
 }

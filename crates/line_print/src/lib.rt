@@ -4,6 +4,7 @@ ghost use Prim.Native.Nat.{_≤_};
 ghost use mathlib.Core.List.{[], _∷_};
 ghost use lib.ListN.{length};
 ghost use Rattle.laws.specs.Lists.{flat};
+ghost use Rattle.paper.specs.Limits.{refusedLineRoom};
 ghost use Rattle.paper.specs.Text.{printLine, refusedWord};
 ghost use Rattle.paper.specs.Outcome.{Puts};
 ghost use Rattle.number_print.specs.Spaced.{spaced};
@@ -33,13 +34,13 @@ pub fn print_line(out: &mut [u8], word: &[u8], numbers: &[u64]) -> usize
     put_bytes(out, word);
     let at = word.len();
     let end = at + print_numbers(&mut out[at..], numbers);
-    out[end] = 10;
+    out[end] = b'\n';
     end + 1
 }
 
 // A refusal: number, place.
 pub fn print_refused(out: &mut [u8], why: Refusal) -> usize
-    requires { ⌜ 50 ≤ length (now out) ⌝ }
+    requires { ⌜ refusedLineRoom ≤ length (now out) ⌝ }
     ensures { λ r. ⌜ Puts (printLine refusedWord (why .number ∷ why .place ∷ [])) (now (out .entry)) (now (out .exit)) r ⌝ }
 {
     let number = why.number as u64;

@@ -15,13 +15,12 @@ use Rattle.number_read.proofs.Numbers.{number-none}
 
 -- no space, no duty
 pub duty-none : (c : List ℕ) → length c ≤ spaceIn c → dutyLineGood c ≡ false
-unfolding dutyLineGood
 duty-none c h =
     ap (λ (t : Bool). isNumber (take (spaceIn c) c) && t) (number-none (drop (spaceIn c + 1) c) (rw length-drop (omega arith)))
     ∙ and-false (isNumber (take (spaceIn c) c))
 
-pub duty-good : (c : List ℕ) (k : ℕ) → k ≡ spaceIn c → dutyLineGood c ≡ isNumber (take k c) && isNumber (take (length c - (k + 1)) (drop (k + 1) c))
-unfolding dutyLineGood
+pub duty-good : (c : List ℕ) (k : ℕ) → k ≡ spaceIn c
+    → dutyLineGood c ≡ isNumber (take k c) && isNumber (take (length c - (k + 1)) (drop (k + 1) c))
 duty-good c k e = rw (lent-rest (k + 1) c, e)
 
 -- a good line's space is inside it, and both parts are numbers
@@ -33,8 +32,9 @@ duty-parts c k e p =
     let before = isNumber (take k c) in
     let after = isNumber (take (length c - (k + 1)) (drop (k + 1) c)) in
     let both = sym (duty-good c k e) ∙ p in
-    (lt-or-le k (length c) (λ h. omega arith) (λ h. not-both p (duty-none c (rw (← e) h))), and-left before after both, and-right before after both)
+    let inside : k + 1 ≤ length c = lt-or-le k (length c) (λ h. omega arith) (λ h. not-both p (duty-none c (rw (← e) h))) in
+    (inside, and-left before after both, and-right before after both)
 
-pub duty-is : (c : List ℕ) (k : ℕ) → k ≡ spaceIn c → dutyRead c ≡ duty (value (take k c)) (value (take (length c - (k + 1)) (drop (k + 1) c)))
-unfolding dutyRead
+pub duty-is : (c : List ℕ) (k : ℕ) → k ≡ spaceIn c
+    → dutyRead c ≡ duty (value (take k c)) (value (take (length c - (k + 1)) (drop (k + 1) c)))
 duty-is c k e = rw (lent-rest (k + 1) c, e)

@@ -4,12 +4,13 @@ use mathlib.Core.Bool.{Bool, _&&_}
 use mathlib.Core.List.{List}
 use lib.Dec.{ltb}
 use lib.ListN.{length, take}
+use Rattle.paper.specs.Limits.{mostDuties}
 use Rattle.paper.specs.Text.{engineLineGood, dutyLineGood}
 
 -- "Every line ends in a line feed": the line of the engines
-unfoldable pub firstGood : List ℕ → ℕ → Bool
+abbrev pub firstGood : List ℕ → ℕ → Bool
 firstGood xs k = ltb k (length xs) && engineLineGood (take k xs)
 
 -- "line 66, if present, is faulty": the line of duty i, which is line i + 2
-unfoldable pub lineGood : ℕ → List ℕ → ℕ → Bool
-lineGood i xs k = ltb k (length xs) && ltb i 64 && dutyLineGood (take k xs)
+abbrev pub lineGood : ℕ → List ℕ → ℕ → Bool
+lineGood i xs k = ltb k (length xs) && ltb i mostDuties && dutyLineGood (take k xs)

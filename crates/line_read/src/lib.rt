@@ -10,10 +10,13 @@ ghost use Rattle.line_read.specs.Line.{firstGood, lineGood};
 use number_read::is_number;
 use number_read::value_of;
 use paper::Duty;
+use paper::limits::DEFAULT_ENGINES;
+use paper::limits::MOST_DUTIES;
 
 // The first place of a byte, or the length where it is not there.
 pub fn find(b: &[u8], x: u8) -> usize
-    ensures { λ r. ⌜ (r ≡ first (λ k. eqb (getD (now (b .entry)) k 0) x) (length (now (b .entry)))) × (r ≤ length (now (b .entry))) ⌝ }
+    ensures { λ r. ⌜ r ≡ first (λ k. eqb (getD (now (b .entry)) k 0) x) (length (now (b .entry))) ⌝ }
+    ensures { λ r. ⌜ r ≤ length (now (b .entry)) ⌝ }
 {
     let mut i = 0;
     while i < b.len() {
@@ -29,7 +32,7 @@ pub fn find(b: &[u8], x: u8) -> usize
 fn is_dash(c: &[u8]) -> bool
     ensures { λ r. ⌜ r ≡ isDash (now (c .entry)) ⌝ }
 {
-    if c.len() == 1 { c[0] == 45 } else { false }
+    if c.len() == 1 { c[0] == b'-' } else { false }
 }
 
 // Whether the first line names the engines, or leaves it at `-`.
@@ -52,14 +55,18 @@ pub fn engines_read(c: &[u8]) -> u32
     requires { ⌜ engineLineGood (now c) ≡ true ⌝ }
     ensures { λ r. ⌜ r ≡ enginesRead (now (c .entry)) ⌝ }
 {
-    if is_dash(c) { 4 } else { value_of(c) }
+    if is_dash(c) {
+        DEFAULT_ENGINES
+    } else {
+        value_of(c)
+    }
 }
 
 // Whether a line is a service and a period with one space between.
 fn duty_line_good(c: &[u8]) -> bool
     ensures { λ r. ⌜ r ≡ dutyLineGood (now (c .entry)) ⌝ }
 {
-    let space = find(c, 32);
+    let space = find(c, b' ');
     if space == c.len() {
         return false;
     }
@@ -71,7 +78,7 @@ pub fn duty_read(c: &[u8]) -> Duty
     requires { ⌜ dutyLineGood (now c) ≡ true ⌝ }
     ensures { λ r. ⌜ r ≡ dutyRead (now (c .entry)) ⌝ }
 {
-    let space = find(c, 32);
+    let space = find(c, b' ');
     let service = value_of(&c[..space]);
     let period = value_of(&c[space + 1..]);
     Duty { service, period }
@@ -83,5 +90,5 @@ pub fn line_good(rest: &[u8], end: usize, i: usize) -> bool
     requires { ⌜ end ≤ length (now rest) ⌝ }
     ensures { λ r. ⌜ r ≡ lineGood i (now (rest .entry)) end ⌝ }
 {
-    (end < rest.len()) & (i < 64) & duty_line_good(&rest[..end])
+    (end < rest.len()) & (i < MOST_DUTIES) & duty_line_good(&rest[..end])
 }

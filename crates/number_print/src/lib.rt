@@ -2,13 +2,14 @@
 ghost use mathlib.Core.Path.{_≡_};
 ghost use Prim.Native.Nat.{_≤_};
 ghost use lib.ListN.{length};
+ghost use Rattle.paper.specs.Limits.{wordDigits};
 ghost use Rattle.paper.specs.Text.{decimal};
 ghost use Rattle.paper.specs.Outcome.{Puts};
 ghost use Rattle.number_print.specs.Spaced.{spaced};
 
 // How many digits a number has in decimal.
 fn digit_count(n: u64) -> usize
-    ensures { λ r. ⌜ (r ≡ length (decimal n)) × (r ≤ 20) ⌝ }
+    ensures { λ r. ⌜ (r ≡ length (decimal n)) × (r ≤ wordDigits) ⌝ }
 {
     let mut count = 1;
     let mut left = n;
@@ -28,10 +29,10 @@ pub fn print_number(out: &mut [u8], n: u64) -> usize
     let mut k = count;
     let mut left = n;
     while 0 < k {
-        out[k] = 48 + (left % 10) as u8;
+        out[k] = b'0' + (left % 10) as u8;
         left /= 10;
         k -= 1;
     }
-    out[0] = 32;
+    out[0] = b' ';
     count + 1
 }

@@ -2,13 +2,14 @@
 ghost use mathlib.Core.Path.{_≡_};
 ghost use mathlib.Core.Bool.{true};
 ghost use Rattle.paper.specs.Bytes.{within};
-ghost use Rattle.paper.specs.Text.{allDigits, isNumber, value};
+ghost use Rattle.paper.specs.Text.{zeroDigit, nineDigit, allDigits, isNumber, value};
+use paper::limits::MOST_DIGITS;
 
 // Whether a byte is one of `0` to `9`.
 fn is_digit(x: u8) -> bool
-    ensures { λ r. ⌜ r ≡ within 48 57 x ⌝ }
+    ensures { λ r. ⌜ r ≡ within zeroDigit nineDigit x ⌝ }
 {
-    (48 <= x) & (x <= 57)
+    (b'0' <= x) & (x <= b'9')
 }
 
 // Whether all of the bytes are digits.
@@ -32,7 +33,7 @@ pub fn is_number(c: &[u8]) -> bool
     if c.len() == 0 {
         return false;
     }
-    (c.len() <= 9) & all_digits(c) & ((c.len() == 1) | (c[0] != 48))
+    (c.len() <= MOST_DIGITS) & all_digits(c) & ((c.len() == 1) | (c[0] != b'0'))
 }
 
 // The number that the bytes write. Nine digits fit 32 bits.
@@ -43,7 +44,7 @@ pub fn value_of(c: &[u8]) -> u32
     let mut v: u32 = 0;
     let mut i = 0;
     while i < c.len() {
-        v = v * 10 + (c[i] - 48) as u32;
+        v = v * 10 + (c[i] - b'0') as u32;
         i += 1;
     }
     v

@@ -10,7 +10,8 @@ use Rattle.paper.specs.declared.Refusal.{Refusal}
 use Rattle.paper.specs.declared.Written.{Written}
 use Rattle.paper.specs.declared.Written.the-variants.{Length, Refused}
 use Rattle.paper.specs.Outcome.{answer, refusedAs, writtenAs, leaves, Writes}
-use Rattle.paper.specs.Bytes.{small, encode}
+use Rattle.paper.specs.Limits.{small, mostTable}
+use Rattle.paper.specs.Bytes.{encode}
 use Rattle.paper.specs.Wanted.{Wanted}
 use Rattle.paper.specs.Builder.{plan, build}
 use Rattle.paper.specs.Rules.{accepted}
@@ -20,24 +21,25 @@ use Rattle.plan_laws.proofs.Planned.{planned-ranged, WhenBuilt, not-planned, to
 use Rattle.line_print.proofs.Line.{puts-fits}
 use Rattle.plan_text.proofs.Fitting.{front-is}
 
-module _ (x : Wanted) {r : Written} {l xs : List ℕ} (w : Writes (build x 2048) r l xs) where
+module _ (x : Wanted) {r : Written} {l xs : List ℕ} (w : Writes (build x mostTable) r l xs) where
   -- what is built is within the buffer, and cut to the length that is told it is accepted as the plan
   pub built-bytes : {size : ℕ} → r ≡ Length size → (size ≤ length xs) × (accepted (take size xs) ≡ plan x)
   built-bytes {size} told =
-      let whole = then-answer (build x 2048) (λ b. answer (length b)) size (sym (w .said) ∙ ap writtenAs told) in
+      let whole = then-answer (build x mostTable) (λ b. answer (length b)) size (sym (w .said) ∙ ap writtenAs told) in
       let bytes = whole .0 in
       let long = sym (answer-one (length bytes) size (whole .2)) in
       let laid = w .left ∙ ap (λ o. leaves o l) (whole .1) in
       let front = front-is size bytes l xs long laid in
-      let plans = built x 2048 bytes (whole .1) .plans in
-      (puts-fits bytes l xs size (long, laid), ap accepted front ∙ built-accepted x 2048 bytes (whole .1) ∙ sym plans)
+      let plans = built x mostTable bytes (whole .1) .plans in
+      (puts-fits bytes l xs size (long, laid), ap accepted front ∙ built-accepted x mostTable bytes (whole .1) ∙ sym plans)
 
   -- a refusal is the plan's: every table has room
   pub built-refused : {why : Refusal} → r ≡ Refused why → plan x ≡ refusedAs why
   built-refused {why} told =
-      go (built-when x 2048 (refusedAs why) .0 (then-refused (build x 2048) length (why .number) (why .place) (sym (w .said) ∙ ap writtenAs told)))
+      go (built-when x mostTable (refusedAs why) .0
+      (then-refused (build x mostTable) length (why .number) (why .place) (sym (w .said) ∙ ap writtenAs told)))
     where
-      go : WhenBuilt x 2048 (refusedAs why) → plan x ≡ refusedAs why
+      go : WhenBuilt x mostTable (refusedAs why) → plan x ≡ refusedAs why
       go (not-planned n p h q) = let z = refused-one (why .number) (why .place) n p q in rw (z .0, z .1) h
       go (too-short t h m q) =
           let g = planned-ranged x t h in

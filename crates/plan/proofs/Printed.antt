@@ -18,6 +18,5 @@ puts-as {W} {W′} {xs} {n} l e h = subst (λ w. Puts w l xs n) e h
 -- by the verdict on what was read, the program prints the plan of it or the refusal
 pub program-is : (b : List ℕ) {r : InputRead} {v : Verdict} → r ≡ inputRead (input b) → r .verdict ≡ v
     → printed (andThen (verdictAs v (wantedIn (r .input))) plan) ≡ program b
-unfolding program
 program-is b {r} {v} e q =
     ap (λ o. printed (andThen o plan)) (ap (λ u. verdictAs u (wantedIn (r .input))) (sym q) ∙ ap told e ∙ read-told b)

@@ -13,6 +13,8 @@ use paper::Input;
 use paper::InputRead;
 use paper::Refusal;
 use paper::Verdict;
+use paper::limits::MOST_DUTIES;
+use paper::limits::MOST_INPUT;
 
 // Refusal 9 at a line.
 fn faulty(line: usize) -> InputRead
@@ -26,8 +28,8 @@ fn faulty(line: usize) -> InputRead
         input: Input {
             engines: 0,
             duties: 0,
-            services: [0; 64],
-            periods: [0; 64],
+            services: [0; MOST_DUTIES],
+            periods: [0; MOST_DUTIES],
         },
     }
 }
@@ -37,13 +39,13 @@ fn faulty(line: usize) -> InputRead
 fn read_duties(b: &[u8], engines: u32) -> InputRead
     ensures { λ r. ⌜ r ≡ inputRead (withEngines engines (dutiesFrom 2 (linesOf (now (b .entry))))) ⌝ }
 {
-    let mut services = [0; 64];
-    let mut periods = [0; 64];
+    let mut services = [0; MOST_DUTIES];
+    let mut periods = [0; MOST_DUTIES];
     let mut i = 0;
     let mut at = 0;
     while at < b.len() {
         let rest = &b[at..];
-        let end = find(rest, 10);
+        let end = find(rest, b'\n');
         if !line_good(rest, end, i) {
             return faulty(i + 2);
         }
@@ -69,10 +71,10 @@ fn read_duties(b: &[u8], engines: u32) -> InputRead
 pub fn read_input(b: &[u8]) -> InputRead
     ensures { λ r. ⌜ r ≡ inputRead (input (now (b .entry))) ⌝ }
 {
-    if b.len() > 4096 {
+    if b.len() > MOST_INPUT {
         return faulty(0);
     }
-    let end = find(b, 10);
+    let end = find(b, b'\n');
     if !first_line_good(b, end) {
         return faulty(1);
     }

@@ -12,12 +12,10 @@ use Rattle.paper.specs.Builder.{fitted}
 
 -- a buffer that is too short
 pub fitted-short : (room n : ℕ) (w : List ℕ) → n ≡ length w → room < n → fitted room w ≡ refused 8 n
-unfolding fitted
 fitted-short room n w e h = rw (← e, lt-ltb room n h)
 
 -- and one that is not
 pub fitted-room : (room n : ℕ) (w : List ℕ) → n ≡ length w → n ≤ room → fitted room w ≡ answer w
-unfolding fitted
 fitted-room room n w e h = rw (← e, le-ltb room n h)
 
 -- the front of a buffer with the text over it is the text

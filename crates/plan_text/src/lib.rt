@@ -1,13 +1,12 @@
 // A plan as text: a line for the plan, one for each duty, run and chain, and one for the loads.
-ghost use mathlib.Core.Path.{_≡_};
 ghost use Prim.Native.Nat.{_≤_};
 ghost use lib.ListN.{length};
+ghost use Rattle.paper.specs.Limits.{textRoom};
 ghost use Rattle.paper.specs.Text.{planText, textFor};
 ghost use Rattle.paper.specs.Outcome.{Puts, Writes};
 ghost use Rattle.paper.specs.Builder.{fitted};
 ghost use Rattle.record_read.specs.Formed.{tableOf};
-ghost use Rattle.table_tally.specs.Tally.{startsOf, endsOf};
-ghost use Rattle.judge.specs.Ready.{Ready};
+ghost use Rattle.table_tally.specs.Ready.{Ready};
 use chain_lines::print_rotation;
 use judge::refusal_of;
 use judge::rule_on;
@@ -15,36 +14,29 @@ use paper::Judged;
 use paper::Reading;
 use paper::Refusal;
 use paper::Written;
+use paper::limits::EDGES;
+use paper::limits::TEXT_ROOM;
 use record_write::put_bytes;
 use table_lines::print_table;
 
-// The text of a plan whose bytes are in good form and meet the rules, by what holds the first and the last unit of each row.
-pub fn print_text(
-    out: &mut [u8],
-    b: &[u8],
-    rd: Reading,
-    starts: &[u32; 33],
-    ends: &[u32; 33],
-) -> usize
-    requires { ⌜ Ready (now b) rd ⌝ }
-    requires { ⌜ (now starts ≡ startsOf (tableOf (now b) rd)) × (now ends ≡ endsOf (tableOf (now b) rd)) ⌝ }
-    requires { ⌜ 8192 ≤ length (now out) ⌝ }
+// The text of a judged table's plan, by the edges of its rows.
+pub fn print_text(out: &mut [u8], b: &[u8], rd: Reading, edges: &[u32; EDGES]) -> usize
+    requires { ⌜ Ready (now b) rd (now edges) × (textRoom ≤ length (now out)) ⌝ }
     ensures { λ r. ⌜ Puts (planText (tableOf (now (b .entry)) rd)) (now (out .entry)) (now (out .exit)) r ⌝ }
-    ensures { λ r. ⌜ r ≤ 8192 ⌝ }
+    ensures { λ r. ⌜ r ≤ textRoom ⌝ }
 {
     let at = print_table(out, b, rd);
-    at + print_rotation(&mut out[at..], starts, ends, rd.engines, rd.runs)
+    at + print_rotation(&mut out[at..], b, rd, edges)
 }
 
-// The text of an accepted table, if the buffer has the room. It is made apart, since a buffer that is too short keeps
-// its bytes.
-fn fit_text(out: &mut [u8], b: &[u8], rd: Reading, starts: &[u32; 33], ends: &[u32; 33]) -> Written
-    requires { ⌜ Ready (now b) rd ⌝ }
-    requires { ⌜ (now starts ≡ startsOf (tableOf (now b) rd)) × (now ends ≡ endsOf (tableOf (now b) rd)) ⌝ }
-    ensures { λ r. ⌜ Writes (fitted (length (now (out .entry))) (planText (tableOf (now (b .entry)) rd))) r (now (out .entry)) (now (out .exit)) ⌝ }
+// The text of a judged table, if the buffer has the room. It is made apart, since a buffer that is too short keeps its bytes.
+fn fit_text(out: &mut [u8], b: &[u8], rd: Reading, edges: &[u32; EDGES]) -> Written
+    requires { ⌜ Ready (now b) rd (now edges) ⌝ }
+    ensures { λ r. ⌜ Writes (fitted (length (now (out .entry))) (planText (tableOf (now (b .entry)) rd)))
+        r (now (out .entry)) (now (out .exit)) ⌝ }
 {
-    let mut text = [0; 8192];
-    let n = print_text(&mut text, b, rd, starts, ends);
+    let mut text = [0; TEXT_ROOM];
+    let n = print_text(&mut text, b, rd, edges);
     if out.len() < n {
         return Written::Refused(Refusal {
             number: 8,
@@ -60,11 +52,10 @@ pub fn plan_text(table: &[u8], out: &mut [u8]) -> Written
     ensures { λ r. ⌜ Writes (textFor (now (table .entry)) (length (now (out .entry)))) r (now (out .entry)) (now (out .exit)) ⌝ }
 {
     let ruling = rule_on(table);
-    let starts = ruling.starts;
-    let ends = ruling.ends;
+    let edges = ruling.edges;
     let judged = ruling.judged;
     match judged {
-        Judged::Accepted(rd) => fit_text(out, table, rd, &starts, &ends),
+        Judged::Accepted(rd) => fit_text(out, table, rd, &edges),
         Judged::Bad(fault) => Written::Refused(refusal_of(fault)),
     }
 }

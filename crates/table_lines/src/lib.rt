@@ -1,13 +1,16 @@
-// The lines of a plan: of what stands in a table, one for the plan, one for each duty and one for each run; and the lines of a chain and of the loads.
+// The lines of a plan: of what stands in a table, one for the plan, one for each duty and one for each run; and the lines of a chain and of
+// the loads.
 ghost use mathlib.Core.List.{[], _∷_};
-ghost use Prim.Native.Nat.{_≤_, _<_};
+ghost use Prim.Native.Nat.{_+_, _≤_};
 ghost use lib.ListN.{length};
-ghost use Rattle.paper.specs.Bytes.{mostTicks};
-ghost use Rattle.paper.specs.Text.{printLine, planWord, dutyWord, runLine, chainWord, loadsWord};
+ghost use Rattle.paper.specs.Limits.{mostTicks, mostEngines, mostDuties, mostRuns};
+ghost use Rattle.paper.specs.Limits.{planLineRoom, dutyLinesRoom, runLinesRoom, tableLinesRoom, chainLineRoom, loadsLineRoom};
+ghost use Rattle.paper.specs.Text.{printLine, planWord, dutyWord, runLine, chainLine, loadsWord};
 ghost use Rattle.record_read.specs.Formed.{Formed, tableOf};
 ghost use Rattle.paper.specs.Outcome.{Puts};
 ghost use Rattle.table_lines.specs.Parts.{dutyLines, runLines, tableLines};
 use line_print::print_line;
+use paper::Chain;
 use paper::Duty;
 use paper::Reading;
 use paper::Run;
@@ -16,9 +19,11 @@ use record_read::run_of;
 
 // The plan: block length, engines, duties.
 fn print_plan_line(out: &mut [u8], rd: Reading) -> usize
-    requires { ⌜ (rd .«block_length» ≤ mostTicks) × (rd .engines ≤ 32) × (rd .duties ≤ 64) × (29 ≤ length (now out)) ⌝ }
-    ensures { λ r. ⌜ Puts (printLine planWord (rd .«block_length» ∷ rd .engines ∷ rd .duties ∷ [])) (now (out .entry)) (now (out .exit)) r ⌝ }
-    ensures { λ r. ⌜ r ≤ 29 ⌝ }
+    requires { ⌜ (rd .«block_length» ≤ mostTicks) × (rd .engines ≤ mostEngines) × (rd .duties ≤ mostDuties) ⌝ }
+    requires { ⌜ planLineRoom ≤ length (now out) ⌝ }
+    ensures { λ r. ⌜
+        Puts (printLine planWord (rd .«block_length» ∷ rd .engines ∷ rd .duties ∷ [])) (now (out .entry)) (now (out .exit)) r ⌝ }
+    ensures { λ r. ⌜ r ≤ planLineRoom ⌝ }
 {
     let numbers = [rd.block_length as u64, rd.engines as u64, rd.duties as u64];
     print_line(out, b"plan", &numbers)
@@ -50,9 +55,9 @@ fn print_run(out: &mut [u8], x: Run) -> usize
 // The duties, one line each.
 fn print_duties(out: &mut [u8], b: &[u8], rd: Reading) -> usize
     requires { ⌜ Formed (now b) rd ⌝ }
-    requires { ⌜ 1856 ≤ length (now out) ⌝ }
+    requires { ⌜ dutyLinesRoom ≤ length (now out) ⌝ }
     ensures { λ r. ⌜ Puts (dutyLines (tableOf (now (b .entry)) rd)) (now (out .entry)) (now (out .exit)) r ⌝ }
-    ensures { λ r. ⌜ r ≤ 1856 ⌝ }
+    ensures { λ r. ⌜ r ≤ dutyLinesRoom ⌝ }
 {
     let n = rd.duties as usize;
     let mut at = 0;
@@ -67,9 +72,9 @@ fn print_duties(out: &mut [u8], b: &[u8], rd: Reading) -> usize
 // The runs, in table order.
 fn print_runs(out: &mut [u8], b: &[u8], rd: Reading) -> usize
     requires { ⌜ Formed (now b) rd ⌝ }
-    requires { ⌜ 4608 ≤ length (now out) ⌝ }
+    requires { ⌜ runLinesRoom ≤ length (now out) ⌝ }
     ensures { λ r. ⌜ Puts (runLines (tableOf (now (b .entry)) rd)) (now (out .entry)) (now (out .exit)) r ⌝ }
-    ensures { λ r. ⌜ r ≤ 4608 ⌝ }
+    ensures { λ r. ⌜ r ≤ runLinesRoom ⌝ }
 {
     let n = rd.runs as usize;
     let mut at = 0;
@@ -84,9 +89,9 @@ fn print_runs(out: &mut [u8], b: &[u8], rd: Reading) -> usize
 // What stands in the table: plan, duties, runs.
 pub fn print_table(out: &mut [u8], b: &[u8], rd: Reading) -> usize
     requires { ⌜ Formed (now b) rd ⌝ }
-    requires { ⌜ 6493 ≤ length (now out) ⌝ }
+    requires { ⌜ tableLinesRoom ≤ length (now out) ⌝ }
     ensures { λ r. ⌜ Puts (tableLines (tableOf (now (b .entry)) rd)) (now (out .entry)) (now (out .exit)) r ⌝ }
-    ensures { λ r. ⌜ r ≤ 6493 ⌝ }
+    ensures { λ r. ⌜ r ≤ tableLinesRoom ⌝ }
 {
     let duties = print_plan_line(out, rd);
     let runs = duties + print_duties(&mut out[duties..], b, rd);
@@ -94,20 +99,20 @@ pub fn print_table(out: &mut [u8], b: &[u8], rd: Reading) -> usize
 }
 
 // A chain: first row, length.
-pub fn print_chain(out: &mut [u8], first: u32, rows: u32) -> usize
-    requires { ⌜ (first < 100) × (rows < 100) × (12 ≤ length (now out)) ⌝ }
-    ensures { λ r. ⌜ Puts (printLine chainWord (first ∷ rows ∷ [])) (now (out .entry)) (now (out .exit)) r ⌝ }
-    ensures { λ r. ⌜ r ≤ 12 ⌝ }
+pub fn print_chain(out: &mut [u8], chain: Chain) -> usize
+    requires { ⌜ (chain .first .0 ≤ mostEngines) × (chain .length ≤ mostEngines + 1) × (chainLineRoom ≤ length (now out)) ⌝ }
+    ensures { λ r. ⌜ Puts (chainLine chain) (now (out .entry)) (now (out .exit)) r ⌝ }
+    ensures { λ r. ⌜ r ≤ chainLineRoom ⌝ }
 {
-    let numbers = [first as u64, rows as u64];
+    let numbers = [chain.first.0 as u64, chain.length as u64];
     print_line(out, b"chain", &numbers)
 }
 
 // The loads: in block 0, in each later block.
 pub fn print_loads(out: &mut [u8], first: u32, later: u32) -> usize
-    requires { ⌜ (first ≤ 128) × (later ≤ 128) × (22 ≤ length (now out)) ⌝ }
+    requires { ⌜ (first ≤ mostRuns) × (later ≤ mostRuns) × (loadsLineRoom ≤ length (now out)) ⌝ }
     ensures { λ r. ⌜ Puts (printLine loadsWord (first ∷ later ∷ [])) (now (out .entry)) (now (out .exit)) r ⌝ }
-    ensures { λ r. ⌜ r ≤ 22 ⌝ }
+    ensures { λ r. ⌜ r ≤ loadsLineRoom ⌝ }
 {
     let numbers = [first as u64, later as u64];
     print_line(out, b"loads", &numbers)

@@ -9,7 +9,8 @@ use Rattle.laws.specs.Lists.{over}
 use Rattle.paper.specs.declared.Refusal.{Refusal}
 use Rattle.paper.specs.declared.Written.{Written}
 use Rattle.paper.specs.declared.Written.the-variants.{Length, Refused}
-use Rattle.paper.specs.Outcome.{Outcome, refused, answer, refusedAs, mostPlace, writtenAs, lengthOf, leaves, Writes}
+use Rattle.paper.specs.Limits.{mostPlace, wordRoom}
+use Rattle.paper.specs.Outcome.{Outcome, refused, answer, refusedAs, writtenAs, lengthOf, leaves, Writes}
 use Rattle.paper.specs.Wanted.{Wanted}
 use Rattle.paper.specs.Builder.{build}
 use Rattle.paper.specs.Face.{Tells, buildCall, buildEntries}
@@ -23,11 +24,13 @@ abbrev pub Left : Outcome (List ℕ) → ℕ → List ℕ → List ℕ → List 
 Left o word table table′ lent lent′ = Tells (buildEntries o) word lent lent′ × (table′ ≡ leaves o table)
 
 -- a call that writes refused
-refused-is : {o : Outcome (List ℕ)} {r : Written} {x : Refusal} {before after : List ℕ} → Writes o r before after → r ≡ Refused x → o ≡ refusedAs x
+refused-is : {o : Outcome (List ℕ)} {r : Written} {x : Refusal} {before after : List ℕ} → Writes o r before after → r ≡ Refused x → o
+    ≡ refusedAs x
 refused-is {o} w q = then-refused o length _ _ (sym (w .said) ∙ ap writtenAs q)
 
 -- it wrote a table
-left-answer : (o : Outcome (List ℕ)) (k : ℕ) (table table′ lent : List ℕ) → lengthOf o ≡ answer k → table′ ≡ leaves o table → 1 ≤ length lent
+left-answer : (o : Outcome (List ℕ)) (k : ℕ) (table table′ lent : List ℕ) → lengthOf o ≡ answer k → table′ ≡ leaves o table
+    → wordRoom ≤ length lent
     → Left o 0 table table′ lent (set lent 0 k)
 left-answer (refused n p) k table table′ lent e h l = answered k n p (sym e)
 left-answer (answer w) k table table′ lent e h l =
@@ -40,19 +43,21 @@ module _ (x : Wanted) (table : List ℕ) where
   build-fits w q = listed-fits (build-listed x (length table)) (refused-is w q)
 
   -- the lent answer is too short
-  pub build-short : (lent : List ℕ) (word : ℕ) → length lent < 1 → word ≡ 511 → Left (buildCall x table lent) word table table lent lent
-  unfolding buildCall
-  build-short lent word h w = rw (lt-ltb (length lent) 1 h) (record { said = w; left = refl }, refl)
+  pub build-short : (lent : List ℕ) (word : ℕ) → length lent < wordRoom → word ≡ 255 + 256 * wordRoom
+      → Left (buildCall x table lent) word table table lent lent
+  build-short lent word h w = rw (lt-ltb (length lent) wordRoom h) (record { said = w; left = refl }, refl)
 
   -- the builder refused
-  pub build-refused : {table′ : List ℕ} (lent : List ℕ) (word : ℕ) {r : Written} {why : Refusal} → 1 ≤ length lent → Writes (build x (length table)) r table table′
+  pub build-refused : {table′ : List ℕ} (lent : List ℕ) (word : ℕ) {r : Written} {why : Refusal} → wordRoom ≤ length lent
+      → Writes (build x (length table)) r table table′
       → r ≡ Refused why → word ≡ why .number + 256 * why .place → Left (buildCall x table lent) word table table′ lent lent
-  unfolding buildCall
-  build-refused lent word l w q e = let z = refused-is w q in rw (le-ltb (length lent) 1 l, z) (record { said = e; left = refl }, rw z at (w .left))
+  build-refused lent word l w q e = let z = refused-is w q in
+      rw (le-ltb (length lent) wordRoom l, z) (record { said = e; left = refl }, rw z at (w .left))
 
   -- the builder answered
-  pub build-answer : {table′ : List ℕ} (lent : List ℕ) (k : ℕ) {r : Written} → 1 ≤ length lent → Writes (build x (length table)) r table table′ → r ≡ Length k
+  pub build-answer : {table′ : List ℕ} (lent : List ℕ) (k : ℕ) {r : Written} → wordRoom ≤ length lent
+      → Writes (build x (length table)) r table table′ → r ≡ Length k
       → Left (buildCall x table lent) 0 table table′ lent (set lent 0 k)
-  unfolding buildCall
   build-answer lent k l w q =
-      rw (le-ltb (length lent) 1 l) (left-answer (build x (length table)) k table _ lent (sym (w .said) ∙ ap writtenAs q) (w .left) l)
+      rw (le-ltb (length lent) wordRoom l)
+      (left-answer (build x (length table)) k table _ lent (sym (w .said) ∙ ap writtenAs q) (w .left) l)

@@ -1,5 +1,5 @@
--- How a call of the face comes to what it must leave, where the lent list is long enough: the call behind it refused, by a word that has room
--- for the refusal; or it answered, and the entries were written.
+-- How a call of the face comes to what it must leave, where the lent list is long enough: the call behind it refused, by a word that has
+-- room for the refusal; or it answered, and the entries were written.
 -- Assumes nothing.
 use Prim.Native.Nat.{ℕ, _+_, _*_, _≤_, _<_}
 use mathlib.Core.Path.{_≡_, refl}
@@ -9,7 +9,8 @@ use lib.ListN.{length}
 use borrow.Author.Tests.{le-ltb}
 use Rattle.laws.specs.Choice.{pick}
 use Rattle.laws.specs.Lists.{over}
-use Rattle.paper.specs.Outcome.{Outcome, refused, answer, mostPlace}
+use Rattle.paper.specs.Limits.{mostPlace}
+use Rattle.paper.specs.Outcome.{Outcome, refused, answer}
 use Rattle.paper.specs.Face.{Tells, entries, needing}
 use Rattle.plan_laws.proofs.Listed.{Listed}
 

@@ -23,6 +23,11 @@ use paper::RowTold;
 use paper::ShareAnswer;
 use paper::SharesTold;
 use paper::Written;
+use paper::limits::READING_ROOM;
+use paper::limits::REPLY_ROOM;
+use paper::limits::SHARE_READING_ROOM;
+use paper::limits::STATE_ROOM;
+use paper::limits::WORD_ROOM;
 
 // SA1's plan of the duties, into the lent table.
 #[no_mangle]
@@ -33,11 +38,15 @@ pub extern "C" fn tickplume_build(
     table: &mut [u8],
     answer: &mut [u64],
 ) -> u64
-    ensures { λ r. ⌜ Tells (buildEntries (buildCall (wanted engines (now (services .entry)) (now (periods .entry))) (now (table .entry)) (now (answer .entry)))) r (now (answer .entry)) (now (answer .exit)) ⌝ }
-    ensures { λ r. ⌜ now (table .exit) ≡ leaves (buildCall (wanted engines (now (services .entry)) (now (periods .entry))) (now (table .entry)) (now (answer .entry))) (now (table .entry)) ⌝ }
+    ensures { λ r. ⌜ Tells
+        (buildEntries (buildCall (wanted engines (now (services .entry)) (now (periods .entry))) (now (table .entry))
+        (now (answer .entry)))) r (now (answer .entry)) (now (answer .exit)) ⌝ }
+    ensures { λ r. ⌜ now (table .exit) ≡ leaves
+        (buildCall (wanted engines (now (services .entry)) (now (periods .entry))) (now (table .entry)) (now (answer .entry)))
+        (now (table .entry)) ⌝ }
 {
-    if answer.len() < 1 {
-        return too_short(1);
+    if answer.len() < WORD_ROOM {
+        return too_short(WORD_ROOM);
     }
     match builder::build(engines, services, periods, table) {
         Written::Refused(why) => word_of(why),
@@ -53,8 +62,8 @@ pub extern "C" fn tickplume_build(
 pub extern "C" fn tickplume_judge(table: &[u8], answer: &mut [u64]) -> u64
     ensures { λ r. ⌜ Tells (judgeCall (now (table .entry)) (now (answer .entry))) r (now (answer .entry)) (now (answer .exit)) ⌝ }
 {
-    if answer.len() < 4 {
-        return too_short(4);
+    if answer.len() < READING_ROOM {
+        return too_short(READING_ROOM);
     }
     match judge::judge(table) {
         Judged::Bad(fault) => word_of(judge::refusal_of(fault)),
@@ -73,10 +82,11 @@ pub extern "C" fn tickplume_question(
     tick: u64,
     answer: &mut [u64],
 ) -> u64
-    ensures { λ r. ⌜ Tells (questionCall (now (table .entry)) engine tick (now (answer .entry))) r (now (answer .entry)) (now (answer .exit)) ⌝ }
+    ensures { λ r. ⌜ Tells (questionCall (now (table .entry)) engine tick (now (answer .entry))) r (now (answer .entry))
+        (now (answer .exit)) ⌝ }
 {
-    if answer.len() < 2 {
-        return too_short(2);
+    if answer.len() < REPLY_ROOM {
+        return too_short(REPLY_ROOM);
     }
     match asked::question(table, Engine(engine), tick) {
         Answer::Refused(why) => word_of(why),
@@ -92,8 +102,8 @@ pub extern "C" fn tickplume_question(
 pub extern "C" fn tickplume_start(table: &[u8], block: u64, state: &mut [u64]) -> u64
     ensures { λ r. ⌜ Tells (startCall (now (table .entry)) block (now (state .entry))) r (now (state .entry)) (now (state .exit)) ⌝ }
 {
-    if state.len() < 33 {
-        return too_short(33);
+    if state.len() < STATE_ROOM {
+        return too_short(STATE_ROOM);
     }
     hand_over(Dispatcher::start(table, block), state)
 }
@@ -101,13 +111,14 @@ pub extern "C" fn tickplume_start(table: &[u8], block: u64, state: &mut [u64]) -
 // The row of an engine in the state's block.
 #[no_mangle]
 pub extern "C" fn tickplume_row(table: &[u8], state: &[u64], engine: u32, answer: &mut [u64]) -> u64
-    ensures { λ r. ⌜ Tells (rowCall (now (table .entry)) (now (state .entry)) engine (now (answer .entry))) r (now (answer .entry)) (now (answer .exit)) ⌝ }
+    ensures { λ r. ⌜ Tells (rowCall (now (table .entry)) (now (state .entry)) engine (now (answer .entry))) r (now (answer .entry))
+        (now (answer .exit)) ⌝ }
 {
-    if state.len() < 33 {
-        return too_short(33);
+    if state.len() < STATE_ROOM {
+        return too_short(STATE_ROOM);
     }
-    if answer.len() < 1 {
-        return too_short(1);
+    if answer.len() < WORD_ROOM {
+        return too_short(WORD_ROOM);
     }
     let here = Dispatcher(state_in(state));
     match here.row(table, Engine(engine)) {
@@ -124,8 +135,8 @@ pub extern "C" fn tickplume_row(table: &[u8], state: &[u64], engine: u32, answer
 pub extern "C" fn tickplume_next(table: &[u8], state: &mut [u64]) -> u64
     ensures { λ r. ⌜ Tells (nextCall (now (table .entry)) (now (state .entry))) r (now (state .entry)) (now (state .exit)) ⌝ }
 {
-    if state.len() < 33 {
-        return too_short(33);
+    if state.len() < STATE_ROOM {
+        return too_short(STATE_ROOM);
     }
     let here = Dispatcher(state_in(state));
     hand_over(here.next(table), state)
@@ -136,8 +147,8 @@ pub extern "C" fn tickplume_next(table: &[u8], state: &mut [u64]) -> u64
 pub extern "C" fn tickplume_count(table: &[u8], blocks: u64, answer: &mut [u64]) -> u64
     ensures { λ r. ⌜ Tells (countCall (now (table .entry)) blocks (now (answer .entry))) r (now (answer .entry)) (now (answer .exit)) ⌝ }
 {
-    if answer.len() < 1 {
-        return too_short(1);
+    if answer.len() < WORD_ROOM {
+        return too_short(WORD_ROOM);
     }
     match asked::count(table, blocks) {
         Counted::Refused(why) => word_of(why),
@@ -157,11 +168,15 @@ pub extern "C" fn tickplume_shares(
     allotments: &mut [u32],
     answer: &mut [u64],
 ) -> u64
-    ensures { λ r. ⌜ Tells (sharesEntries (sharesCall (wanted engines (now (services .entry)) (now (periods .entry))) (now (allotments .entry)) (now (answer .entry)))) r (now (answer .entry)) (now (answer .exit)) ⌝ }
-    ensures { λ r. ⌜ now (allotments .exit) ≡ leaves (sharesLeft (sharesCall (wanted engines (now (services .entry)) (now (periods .entry))) (now (allotments .entry)) (now (answer .entry)))) (now (allotments .entry)) ⌝ }
+    ensures { λ r. ⌜ Tells
+        (sharesEntries (sharesCall (wanted engines (now (services .entry)) (now (periods .entry))) (now (allotments .entry))
+        (now (answer .entry)))) r (now (answer .entry)) (now (answer .exit)) ⌝ }
+    ensures { λ r. ⌜ now (allotments .exit) ≡ leaves
+        (sharesLeft (sharesCall (wanted engines (now (services .entry)) (now (periods .entry))) (now (allotments .entry))
+        (now (answer .entry)))) (now (allotments .entry)) ⌝ }
 {
-    if answer.len() < 3 {
-        return too_short(3);
+    if answer.len() < SHARE_READING_ROOM {
+        return too_short(SHARE_READING_ROOM);
     }
     match share_plan::build_shares(engines, services, periods, allotments) {
         SharesTold::Refused(why) => word_of(why),
@@ -182,10 +197,12 @@ pub extern "C" fn tickplume_share_at(
     tick: u64,
     answer: &mut [u64],
 ) -> u64
-    ensures { λ r. ⌜ Tells (shareAtCall (wanted engines (now (services .entry)) (now (periods .entry))) engine tick (now (answer .entry))) r (now (answer .entry)) (now (answer .exit)) ⌝ }
+    ensures { λ r. ⌜ Tells
+        (shareAtCall (wanted engines (now (services .entry)) (now (periods .entry))) engine tick (now (answer .entry))) r
+        (now (answer .entry)) (now (answer .exit)) ⌝ }
 {
-    if answer.len() < 1 {
-        return too_short(1);
+    if answer.len() < WORD_ROOM {
+        return too_short(WORD_ROOM);
     }
     match share_plan::share_question(engines, services, periods, Engine(engine), tick) {
         ShareAnswer::Refused(why) => word_of(why),

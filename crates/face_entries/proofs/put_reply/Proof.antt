@@ -7,20 +7,8 @@ use Rattle.face_entries.proofs.Stored.{stored-two}
 use Rattle.face_entries.proofs.put_reply.Statement.{statement}
 use Rattle.face_entries.proofs.put_reply.Tie as tie
 
-cast-answer : tie.Need-cast-answer
-cast-answer c = search needs
-
-slice-write-answer : tie.Need-slice-write-answer
-slice-write-answer c = search needs
-
-held-entry-requires : tie.Need-held-entry-requires
-held-entry-requires c κs = search needs
-
 slice-write-answer-2 : tie.Need-slice-write-answer-2
 slice-write-answer-2 c = simp length-set (omega arith)
-
-same-length : tie.Need-same-length
-same-length c = search needs
 
 returns : tie.Need-returns
 returns c = rw (c .held-entry .ensures) (stored-two _ _ (c .before .before .before .args .answer .now) (search needs))
@@ -29,9 +17,9 @@ pub put-reply-spec : {M : Type 1} → statement M
 put-reply-spec =
     tie.close
     (tie.spec
-    cast-answer
-    slice-write-answer
-    held-entry-requires
+    (λ c. search needs)
+    (λ c. search needs)
+    (λ c κs. search needs)
     slice-write-answer-2
-    same-length
+    (λ c. search needs)
     returns)

@@ -6,17 +6,8 @@ use Rattle.face_entries.proofs.Stored.{stored-three}
 use Rattle.face_entries.proofs.put_share_reading.Statement.{statement}
 use Rattle.face_entries.proofs.put_share_reading.Tie as tie
 
-slice-write-answer : tie.Need-slice-write-answer
-slice-write-answer c = omega arith
-
-cast-answer : tie.Need-cast-answer
-cast-answer c = omega arith
-
 slice-write-answer-2 : tie.Need-slice-write-answer-2
 slice-write-answer-2 c = simp length-set (omega arith)
-
-cast-answer-2 : tie.Need-cast-answer-2
-cast-answer-2 c = omega arith
 
 slice-write-answer-3 : tie.Need-slice-write-answer-3
 slice-write-answer-3 c = simp length-set (omega arith)
@@ -31,10 +22,10 @@ pub put-share-reading-spec : {M : Type 1} → statement M
 put-share-reading-spec =
     tie.close
     (tie.spec
-    slice-write-answer
-    cast-answer
+    (λ c. omega arith)
+    (λ c. omega arith)
     slice-write-answer-2
-    cast-answer-2
+    (λ c. omega arith)
     slice-write-answer-3
     same-length
     returns)

@@ -26,34 +26,19 @@ sub-print-number c = omega (arith, listing-at (c .before .loop .inv))
 part-print-number-start : tie.Need-part-print-number-start Inv-loop μ-loop
 part-print-number-start c = sub-print-number c
 
-part-print-number-end : tie.Need-part-print-number-end Inv-loop μ-loop
-part-print-number-end c = search needs
-
-mul-print-number : tie.Need-mul-print-number Inv-loop μ-loop
-mul-print-number c = search needs
-
-shared-slice-read-print-number : tie.Need-shared-slice-read-print-number Inv-loop μ-loop
-shared-slice-read-print-number c = search needs
-
 print-number-requires : tie.Need-print-number-requires Inv-loop μ-loop
 print-number-requires c κs = rw length-lent (omega (arith, listing-room 0 _ refl (c .before .before .before .loop .inv) (search needs)))
 
 add-at : tie.Need-add-at Inv-loop μ-loop
-add-at c = omega (arith, listing-room 0 _ refl (c .before .before .before .before .before .before .loop .inv) (search needs))
-
-add-i : tie.Need-add-i Inv-loop μ-loop
-add-i c = search needs
-
-loop-less : tie.Need-loop-less Inv-loop μ-loop
-loop-less c = search needs
+add-at c =
+    let loop = c .before .before .before .before .before .before .loop in
+    omega (arith, listing-room 0 _ refl (loop .inv) (search needs))
 
 loop-again : tie.Need-loop-again Inv-loop μ-loop
 loop-again c =
     let put = c .before .before .print-number in
-    listing-more 0 _ _ _ refl (c .before .before .before .before .before .before .loop .inv) (search needs) (put .ensures .0) (put .ensures .1) (search needs)
-
-same-length : tie.Need-same-length Inv-loop μ-loop
-same-length c = search needs
+    let loop = c .before .before .before .before .before .before .loop in
+    listing-more 0 _ _ _ refl (loop .inv) (search needs) (put .ensures .0) (put .ensures .1) (search needs)
 
 returns : tie.Need-returns Inv-loop μ-loop
 returns c = listing-end (c .before .loop .inv) (search needs)
@@ -67,13 +52,13 @@ print-numbers-spec =
     loop-holds
     sub-print-number
     part-print-number-start
-    part-print-number-end
-    mul-print-number
-    shared-slice-read-print-number
+    (λ c. search needs)
+    (λ c. search needs)
+    (λ c. search needs)
     print-number-requires
     add-at
-    add-i
-    loop-less
+    (λ c. search needs)
+    (λ c. search needs)
     loop-again
-    same-length
+    (λ c. search needs)
     returns)

@@ -5,28 +5,17 @@ use mathlib.Core.List.{[], _∷_}
 use native.Mathlib.Omega.{arith}
 use lib.ListN.{length}
 use borrow.Author.Needs.{needs}
+use Rattle.paper.specs.Limits.{refusedLineRoom}
 use Rattle.paper.specs.Text.{printLine, refusedWord}
 use Rattle.line_print.proofs.Line.{line-most}
 use Rattle.line_print.proofs.print_refused.Statement.{statement}
 use Rattle.line_print.proofs.print_refused.Tie as tie
 
-refused-fits : (n p room : ℕ) → n < 2 ^ 64 → p < 2 ^ 64 → 50 ≤ room → length (printLine refusedWord (n ∷ p ∷ [])) ≤ room
+refused-fits : (n p room : ℕ) → n < 2 ^ 64 → p < 2 ^ 64 → refusedLineRoom ≤ room → length (printLine refusedWord (n ∷ p ∷ [])) ≤ room
 refused-fits n p room h l r = omega (arith, line-most 19 refusedWord (n ∷ p ∷ []) (omega arith, (omega arith, tt)))
-
-cast-number : tie.Need-cast-number
-cast-number c = search needs
-
-slice-aggregate-print-line : tie.Need-slice-aggregate-print-line
-slice-aggregate-print-line c = search needs
-
-slice-aggregate-print-line-2 : tie.Need-slice-aggregate-print-line-2
-slice-aggregate-print-line-2 c = search needs
 
 print-line-requires : tie.Need-print-line-requires
 print-line-requires c κs = refused-fits _ _ _ (search needs) (search needs) (search needs)
-
-same-length : tie.Need-same-length
-same-length c = search needs
 
 returns : tie.Need-returns
 returns c = c .before .before .print-line .ensures
@@ -35,9 +24,9 @@ pub print-refused-spec : {M : Type 1} → statement M
 print-refused-spec =
     tie.close
     (tie.spec
-    cast-number
-    slice-aggregate-print-line
-    slice-aggregate-print-line-2
+    (λ c. search needs)
+    (λ c. search needs)
+    (λ c. search needs)
     print-line-requires
-    same-length
+    (λ c. search needs)
     returns)

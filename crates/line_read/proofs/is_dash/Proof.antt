@@ -6,9 +6,6 @@ use Rattle.line_read.proofs.Dash.{dash-one, dash-not}
 use Rattle.line_read.proofs.is_dash.Statement.{statement}
 use Rattle.line_read.proofs.is_dash.Tie as tie
 
-shared-slice-read-result : tie.Need-shared-slice-read-result
-shared-slice-read-result c = search needs
-
 returns : tie.Need-returns
 returns c = sym (dash-one (c .before .before .args .c .now) (search needs))
 
@@ -16,4 +13,4 @@ returns-2 : tie.Need-returns-2
 returns-2 c = sym (dash-not (c .before .args .c .now) (c .if1 .left))
 
 pub is-dash-spec : {M : Type 1} → statement M
-is-dash-spec = tie.close (tie.spec shared-slice-read-result returns returns-2)
+is-dash-spec = tie.close (tie.spec (λ c. search needs) returns returns-2)

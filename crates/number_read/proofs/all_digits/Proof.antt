@@ -1,8 +1,8 @@
 -- `all_digits`: what is left are digits exactly where all are.
 -- Assumes nothing.
 use mathlib.Core.Path.{_≡_, refl, sym, _∙_}
-use mathlib.Core.Bool.{true, false}
-use Prim.Native.Nat.{_≤_, _-_}
+use mathlib.Core.Bool.{Bool, true, false, _&&_}
+use Prim.Native.Nat.{_≤_, _+_, _-_}
 use borrow.Author.Needs.{needs}
 use borrow.Author.Tests.{not-true, not-false}
 use lib.ListN.{length, drop}
@@ -17,35 +17,29 @@ Inv-loop c i₀ i = (i ≤ length c) × (allDigits (drop i c) ≡ allDigits c)
 abbrev μ-loop : tie.MeasureT-loop
 μ-loop c i₀ i = length c - i
 
+-- what is left, by whether the byte that was looked at is a digit
+left : (c : tie.After-is-digit Inv-loop μ-loop) (t : Bool) → c .is-digit .result ≡ t →
+    let bytes = c .before .before .before .before .before .args .c .now in
+    t && allDigits (drop (c .before .before .before .loop .i + 1) bytes) ≡ allDigits bytes
+left c t e =
+    let start = c .before .before .before .before .before in
+    let loop = c .before .before .before .loop in
+    sym (digits-step (start .args .c .now) (loop .i) t (search needs) (sym (c .is-digit .ensures) ∙ e)) ∙ loop .inv .1
+
 loop-holds : tie.Need-loop-holds Inv-loop μ-loop
 loop-holds c = (search needs, refl)
 
-shared-slice-read-is-digit : tie.Need-shared-slice-read-is-digit Inv-loop μ-loop
-shared-slice-read-is-digit c = search needs
-
-is-digit-requires : tie.Need-is-digit-requires Inv-loop μ-loop
-is-digit-requires c κs = search needs
-
 returns : tie.Need-returns Inv-loop μ-loop
-returns c =
-    let loop = c .before .before .before .before .loop in
-    let other = sym (c .before .is-digit .ensures) ∙ not-true _ (c .if1 .taken) in
-    sym (digits-step (c .before .before .before .before .before .before .args .c .now) (loop .i) false (search needs) other) ∙ loop .inv .1
-
-add-i : tie.Need-add-i Inv-loop μ-loop
-add-i c = search needs
-
-loop-less : tie.Need-loop-less Inv-loop μ-loop
-loop-less c = search needs
+returns c = left (c .before) false (not-true _ (c .if1 .taken))
 
 loop-again : tie.Need-loop-again Inv-loop μ-loop
-loop-again c =
-    let loop = c .before .before .before .before .loop in
-    let digit = sym (c .before .is-digit .ensures) ∙ not-false _ (c .if1 .left) in
-    (search needs, sym (digits-step (c .before .before .before .before .before .before .args .c .now) (loop .i) true (search needs) digit) ∙ loop .inv .1)
+loop-again c = (search needs, left (c .before) true (not-false _ (c .if1 .left)))
 
 returns-2 : tie.Need-returns-2 Inv-loop μ-loop
-returns-2 c = sym (digits-end (c .before .before .before .args .c .now) (c .before .loop .i) (search needs)) ∙ c .before .loop .inv .1
+returns-2 c =
+    let start = c .before .before .before in
+    let loop = c .before .loop in
+    sym (digits-end (start .args .c .now) (loop .i) (search needs)) ∙ loop .inv .1
 
 pub all-digits-spec : {M : Type 1} → statement M
 all-digits-spec =
@@ -54,10 +48,10 @@ all-digits-spec =
     Inv-loop
     μ-loop
     loop-holds
-    shared-slice-read-is-digit
-    is-digit-requires
+    (λ c. search needs)
+    (λ c κs. search needs)
     returns
-    add-i
-    loop-less
+    (λ c. search needs)
+    (λ c. search needs)
     loop-again
     returns-2)

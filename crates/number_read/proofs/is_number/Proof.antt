@@ -9,15 +9,11 @@ use Rattle.number_read.proofs.is_number.Tie as tie
 returns : tie.Need-returns
 returns c = sym (number-none (c .before .before .args .c .now) (search needs))
 
-all-digits-requires : tie.Need-all-digits-requires
-all-digits-requires c κs = search needs
-
-shared-slice-read-result : tie.Need-shared-slice-read-result
-shared-slice-read-result c = search needs
-
 returns-2 : tie.Need-returns-2
-returns-2 c = rw (c .before .all-digits .ensures) (sym (number-some (c .before .before .before .before .args .c .now) (search needs)))
+returns-2 c =
+    let start = c .before .before .before .before in
+    rw (c .before .all-digits .ensures) (sym (number-some (start .args .c .now) (search needs)))
 
 pub is-number-spec : {M : Type 1} → statement M
 is-number-spec =
-    tie.close (tie.spec returns all-digits-requires shared-slice-read-result returns-2)
+    tie.close (tie.spec returns (λ c κs. search needs) (λ c. search needs) returns-2)

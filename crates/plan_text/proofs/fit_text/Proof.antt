@@ -18,20 +18,11 @@ use Rattle.plan_text.proofs.fit_text.Tie as tie
 abbrev text : tie.Start → List ℕ
 text s = planText (tableOf (s .args .b .now) (s .args .rd))
 
-slice-aggregate-print-text : tie.Need-slice-aggregate-print-text
-slice-aggregate-print-text c = search needs
-
-print-text-requires : tie.Need-print-text-requires
-print-text-requires c κs = search needs
-
 returns : tie.Need-returns
 returns c =
     let start = c .before .before .before .before .before .before in
     let put = c .before .before .print-text in
     writes-refused _ (start .args .out .now) (fitted-short _ (put .result) (text start) (put .ensures .0 .0) (search needs))
-
-array-share-prefix-text : tie.Need-array-share-prefix-text
-array-share-prefix-text c = search needs
 
 slice-aggregate-put-bytes : tie.Need-slice-aggregate-put-bytes
 slice-aggregate-put-bytes c =
@@ -43,26 +34,24 @@ put-bytes-requires c κs =
     let put = c .before .before .before .before .print-text in
     rw (front-is _ _ _ _ (put .ensures .0 .0) (put .ensures .0 .1)) (omega (arith, put .ensures .0 .0))
 
-same-length : tie.Need-same-length
-same-length c = search needs
-
 returns-2 : tie.Need-returns-2
 returns-2 c =
     let start = c .before .before .before .before .before .before .before .before .before .before .before in
     let l = start .args .out .now in
     let put = c .before .before .before .before .before .before .before .print-text in
-    writes-length (text start) l _ (fitted-room (length l) (put .result) (text start) (put .ensures .0 .0) (search needs)) (sym (put .ensures .0 .0))
-    (c .before .before .put-bytes .ensures ∙ ap (λ w. over w l) (front-is _ (text start) _ _ (put .ensures .0 .0) (put .ensures .0 .1)))
+    let room = fitted-room (length l) (put .result) (text start) (put .ensures .0 .0) (search needs) in
+    let front = front-is _ (text start) _ _ (put .ensures .0 .0) (put .ensures .0 .1) in
+    writes-length (text start) l _ room (sym (put .ensures .0 .0)) (c .before .before .put-bytes .ensures ∙ ap (λ w. over w l) front)
 
 pub fit-text-spec : {M : Type 1} → statement M
 fit-text-spec =
     tie.close
     (tie.spec
-    slice-aggregate-print-text
-    print-text-requires
+    (λ c. search needs)
+    (λ c κs. search needs)
     returns
-    array-share-prefix-text
+    (λ c. search needs)
     slice-aggregate-put-bytes
     put-bytes-requires
-    same-length
+    (λ c. search needs)
     returns-2)

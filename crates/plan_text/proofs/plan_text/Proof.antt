@@ -1,16 +1,16 @@
 -- `plan_text`: the judge decides, then the room.
 -- Assumes nothing.
-use mathlib.Core.Path.{sym}
-use mathlib.Core.List.{List}
 use Prim.Native.Nat.{ℕ}
+use mathlib.Core.Path.{sym, refl}
+use mathlib.Core.List.{List}
 use lib.ListN.{length}
-use borrow.Author.Needs.{needs}
 use Rattle.paper.specs.Words.{Table}
 use Rattle.paper.specs.Outcome.{Outcome}
 use Rattle.paper.specs.Builder.{fitted}
-use Rattle.paper.specs.Text.{planText, textFor}
+use Rattle.paper.specs.Text.{planText}
 use Rattle.paper.proofs.Outcomes.{writes-same, writes-refused}
-use Rattle.judge.proofs.Asked.{ready, asked-accepted, asked-refused}
+use Rattle.judge.proofs.Asked.{asked-accepted, asked-refused}
+use borrow.Author.Needs.{needs}
 use Rattle.plan_text.proofs.plan_text.Statement.{statement}
 use Rattle.plan_text.proofs.plan_text.Tie as tie
 
@@ -18,54 +18,39 @@ use Rattle.plan_text.proofs.plan_text.Tie as tie
 abbrev asked : ℕ → Table → Outcome (List ℕ)
 asked room t = fitted room (planText t)
 
-rule-on-requires : tie.Need-rule-on-requires
-rule-on-requires c κs = search needs
-
-enum-known-judged : tie.Need-enum-known-judged
-enum-known-judged c = search needs
-
 fit-text-requires : tie.Need-fit-text-requires
 fit-text-requires c κs =
-    let b = c .before .before .before .before .before .before .before .before .before .before .before .args .table .now in
-    let ruled = c .before .before .before .before .before .before .before .before .rule-on .ensures in
-    let R = ready b (ruled .told) (c .before .before .before .before .judged .given .1) in
-    (R, (ruled .starts-are _ (R .formed), ruled .ends-are _ (R .formed)))
-
-enum-known-judged-2 : tie.Need-enum-known-judged-2
-enum-known-judged-2 c = search needs
-
-refusal-of-requires : tie.Need-refusal-of-requires
-refusal-of-requires c κs = search needs
-
-same-length : tie.Need-same-length
-same-length c = search needs
+    let rule-on = c .before .before .before .before .before .before .rule-on in
+    rule-on .ensures .ready _
+    (c .before .before .before .judged .given .1)
 
 returns : tie.Need-returns
-unfolding textFor
 returns c =
-    let args = c .before .before .before .before .before .before .before .before .before .before .before .before .before .before .args in
-    let ruled = c .before .before .before .before .before .before .before .before .before .before .before .rule-on .ensures in
-    let same = asked-accepted (args .table .now) (asked (length (args .out .now))) (ruled .told) (c .before .before .before .before .before .before .before .judged .given .1) in
-    writes-same (sym same) (c .before .before .fit-text .ensures)
+    let start = c .before .before .before .before .before .before .before .before .before .before .before .before in
+    let rule-on = c .before .before .before .before .before .before .before .before .before .rule-on in
+    let judged = c .before .before .before .before .before .before .judged in
+    let room = length (start .args .out .now) in
+    writes-same (sym (asked-accepted (rule-on .ensures)
+    (asked room) (judged .given .1) refl)) (c .before .before .fit-text .ensures)
 
 returns-2 : tie.Need-returns-2
-unfolding textFor
 returns-2 c =
-    let args = c .before .before .before .before .before .before .before .before .before .args in
-    let l = args .out .now in
-    let ruled = c .before .before .before .before .before .before .rule-on .ensures in
-    let same = asked-refused (args .table .now) (asked (length l)) (ruled .told) (c .before .before .judged2 .given .1) (c .refusal-of .ensures) in
-    writes-refused (c .refusal-of .result) l (sym same)
+    let rule-on = c .before .before .before .before .before .rule-on in
+    let l = c .before .before .before .before .before .before .before .before .args .out .now in
+    let why = c .refusal-of in
+    writes-refused (why .result) l
+    (sym (asked-refused (rule-on .ensures) (asked (length l))
+    (c .before .before .judged2 .given .1) (why .ensures)))
 
 pub plan-text-spec : {M : Type 1} → statement M
 plan-text-spec =
     tie.close
     (tie.spec
-    rule-on-requires
-    enum-known-judged
+    (λ c κs. search needs)
+    (λ c. search needs)
     fit-text-requires
-    enum-known-judged-2
-    refusal-of-requires
-    same-length
+    (λ c. search needs)
+    (λ c κs. search needs)
+    (λ c. search needs)
     returns
     returns-2)

@@ -5,36 +5,34 @@ use mathlib.Core.List.{[], _∷_}
 use native.Mathlib.Omega.{arith}
 use lib.ListN.{length}
 use borrow.Author.Needs.{needs}
+use Rattle.paper.specs.Limits.{loadsLineRoom}
 use Rattle.paper.specs.Text.{printLine, loadsWord}
 use Rattle.line_print.proofs.Line.{line-most}
 use Rattle.table_lines.proofs.print_loads.Statement.{statement}
 use Rattle.table_lines.proofs.print_loads.Tie as tie
 
-fits : (s : tie.Start) → length (printLine loadsWord (s .args .first ∷ s .args .later ∷ [])) ≤ 22
+fits : (s : tie.Start) → length (printLine loadsWord (s .args .first ∷ s .args .later ∷ [])) ≤ loadsLineRoom
 fits s =
-    omega (arith, line-most 6 loadsWord (s .args .first ∷ s .args .later ∷ []) (omega (arith, s .pre), (omega (arith, s .pre), tt)))
-
-slice-aggregate-print-line : tie.Need-slice-aggregate-print-line
-slice-aggregate-print-line c = search needs
-
-slice-aggregate-print-line-2 : tie.Need-slice-aggregate-print-line-2
-slice-aggregate-print-line-2 c = search needs
+    let short = line-most 6 loadsWord (s .args .first ∷ s .args .later ∷ []) in
+    omega (arith, short (omega (arith, s .pre), (omega (arith, s .pre), tt)))
 
 print-line-requires : tie.Need-print-line-requires
-print-line-requires c κs = omega (arith, fits (c .before .before .before .before))
-
-same-length : tie.Need-same-length
-same-length c = search needs
+print-line-requires c κs =
+    let start = c .before .before .before .before in
+    omega (arith, fits start)
 
 returns : tie.Need-returns
-returns c = (c .before .before .print-line .ensures, rw (c .before .before .print-line .ensures .0) (fits (c .before .before .before .before .before .before .before)))
+returns c =
+    let start = c .before .before .before .before .before .before .before in
+    let put = c .before .before .print-line in
+    (put .ensures, rw (put .ensures .0) (fits start))
 
 pub print-loads-spec : {M : Type 1} → statement M
 print-loads-spec =
     tie.close
     (tie.spec
-    slice-aggregate-print-line
-    slice-aggregate-print-line-2
+    (λ c. search needs)
+    (λ c. search needs)
     print-line-requires
-    same-length
+    (λ c. search needs)
     returns)

@@ -10,33 +10,26 @@ use Rattle.tickplume.proofs.tickplume_build.Tie as tie
 abbrev want : tie.Start → Wanted
 want c = wanted (c .args .engines) (c .args .services .now) (c .args .periods .now)
 
-too-short-requires : tie.Need-too-short-requires
-too-short-requires c κs = search needs
-
 returns : tie.Need-returns
 returns c =
     let start = c .before .before .before .before .before .before in
     build-short (want start) (start .args .table .now) (start .args .answer .now) _ (c .before .if1 .taken) (c .too-short .ensures)
 
-build-requires : tie.Need-build-requires
-build-requires c κs = search needs
-
-enum-known-why : tie.Need-enum-known-why
-enum-known-why c = search needs
-
 word-of-requires : tie.Need-word-of-requires
 word-of-requires c κs =
+    let build = c .before .before .before .before .before .build in
     let start = c .before .before .before .before .before .before .before .before .before .before .before .before in
-    build-fits (want start) (start .args .table .now) (c .before .before .before .before .before .build .ensures) (c .before .why .given .1)
-
-enum-known-length : tie.Need-enum-known-length
-enum-known-length c = search needs
+    build-fits (want start) (start .args .table .now) (build .ensures) (c .before .why .given .1)
 
 slice-write-answer : tie.Need-slice-write-answer
-slice-write-answer c = c .before .before .before .before .before .before .before .if1 .left
+slice-write-answer c =
+    let if1 = c .before .before .before .before .before .before .before .if1 in
+    if1 .left
 
 same-length : tie.Need-same-length
-same-length c = c .before .before .before .before .before .table .given
+same-length c =
+    let table = c .before .before .before .before .before .table in
+    table .given
 
 returns-2 : tie.Need-returns-2
 returns-2 c =
@@ -46,10 +39,9 @@ returns-2 c =
     (at .build .ensures) (c .before .before .why .given .1) (c .word-of .ensures)
 
 same-length-2 : tie.Need-same-length-2
-same-length-2 c = c .before .before .before .before .table .given
-
-same-length-3 : tie.Need-same-length-3
-same-length-3 c = search needs
+same-length-2 c =
+    let table = c .before .before .before .before .table in
+    table .given
 
 returns-3 : tie.Need-returns-3
 returns-3 c =
@@ -62,15 +54,15 @@ pub tickplume-build-spec : {M : Type 1} → statement M
 tickplume-build-spec =
     tie.close
     (tie.spec
-    too-short-requires
+    (λ c κs. search needs)
     returns
-    build-requires
-    enum-known-why
+    (λ c κs. search needs)
+    (λ c. search needs)
     word-of-requires
-    enum-known-length
+    (λ c. search needs)
     slice-write-answer
     same-length
     returns-2
     same-length-2
-    same-length-3
+    (λ c. search needs)
     returns-3)

@@ -2,6 +2,7 @@
 -- Assumes nothing.
 use mathlib.Core.Path.{refl, sym, ap, _∙_}
 use mathlib.Core.List.{[], _∷_}
+use Rattle.paper.specs.Limits.{wordRoom}
 use borrow.Author.Needs.{needs}
 use borrow.Author.Tests.{lt-ltb}
 use Rattle.paper.specs.Shares.{shareAnswerAs}
@@ -13,64 +14,41 @@ use Rattle.tickplume.proofs.Telling.{listed-fits, tell-refused, tell-an
 use Rattle.tickplume.proofs.tickplume_share_at.Statement.{statement}
 use Rattle.tickplume.proofs.tickplume_share_at.Tie as tie
 
-too-short-requires : tie.Need-too-short-requires
-too-short-requires c κs = search needs
-
 returns : tie.Need-returns
-unfolding shareAtCall
-returns c = rw (lt-ltb _ 1 (c .before .if1 .taken)) (record { said = c .too-short .ensures; left = refl })
-
-share-question-requires : tie.Need-share-question-requires
-share-question-requires c κs = search needs
-
-enum-known-why : tie.Need-enum-known-why
-enum-known-why c = search needs
+returns c = rw (lt-ltb _ wordRoom (c .before .if1 .taken)) (record { said = c .too-short .ensures; left = refl })
 
 word-of-requires : tie.Need-word-of-requires
 word-of-requires c κs =
     listed-fits (share-question-listed _ _ _)
     (sym (c .before .before .before .share-question .ensures) ∙ ap shareAnswerAs (c .before .why .given .1))
 
-enum-known-held : tie.Need-enum-known-held
-enum-known-held c = search needs
-
-held-entry-requires : tie.Need-held-entry-requires
-held-entry-requires c κs = search needs
-
-slice-write-answer : tie.Need-slice-write-answer
-slice-write-answer c = search needs
-
 returns-2 : tie.Need-returns-2
-unfolding shareAtCall
 returns-2 c =
     let at = c .before .before .before .before in
-    tell-refused (λ h. heldEntry h ∷ []) 1 (at .before .if1 .left)
+    tell-refused (λ h. heldEntry h ∷ []) wordRoom (at .before .if1 .left)
     (sym (at .share-question .ensures) ∙ ap shareAnswerAs (c .before .before .why .given .1)) (c .word-of .ensures)
 
-same-length : tie.Need-same-length
-same-length c = search needs
-
 returns-3 : tie.Need-returns-3
-unfolding shareAtCall
 returns-3 c =
     let at = c .before .before .before .before in
     let start = at .before .before .before .before .before in
-    tell-answer (λ h. heldEntry h ∷ []) 1 (at .before .if1 .left)
+    tell-answer (λ h. heldEntry h ∷ []) wordRoom (at .before .if1 .left)
     (sym (at .share-question .ensures) ∙ ap shareAnswerAs (c .before .before .held .given .1))
-    (stored-one _ (start .args .answer .now) (at .before .if1 .left) ∙ ap (λ n. over (n ∷ []) (start .args .answer .now)) (c .held-entry .ensures))
+    (stored-one _ (start .args .answer .now) (at .before .if1 .left)
+    ∙ ap (λ n. over (n ∷ []) (start .args .answer .now)) (c .held-entry .ensures))
 
 pub tickplume-share-at-spec : {M : Type 1} → statement M
 tickplume-share-at-spec =
     tie.close
     (tie.spec
-    too-short-requires
+    (λ c κs. search needs)
     returns
-    share-question-requires
-    enum-known-why
+    (λ c κs. search needs)
+    (λ c. search needs)
     word-of-requires
-    enum-known-held
-    held-entry-requires
-    slice-write-answer
+    (λ c. search needs)
+    (λ c κs. search needs)
+    (λ c. search needs)
     returns-2
-    same-length
+    (λ c. search needs)
     returns-3)

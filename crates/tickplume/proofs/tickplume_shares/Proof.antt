@@ -1,4 +1,5 @@
--- `tickplume_shares`: the answer of the builder of shares as a word, or its reading as three entries; the builder of shares has written the list.
+-- `tickplume_shares`: the answer of the builder of shares as a word, or its reading as three entries; the builder of shares has written the
+-- list.
 -- Assumes nothing.
 use borrow.Author.Needs.{needs}
 use Rattle.paper.specs.Wanted.{Wanted, wanted}
@@ -10,33 +11,17 @@ use Rattle.tickplume.proofs.tickplume_shares.Tie as tie
 abbrev want : tie.Start → Wanted
 want c = wanted (c .args .engines) (c .args .services .now) (c .args .periods .now)
 
-too-short-requires : tie.Need-too-short-requires
-too-short-requires c κs = search needs
-
 returns : tie.Need-returns
 returns c =
     let start = c .before .before .before .before .before .before in
     shares-short (want start) (start .args .allotments .now) (start .args .answer .now) _ (c .before .if1 .taken) (c .too-short .ensures)
 
-build-shares-requires : tie.Need-build-shares-requires
-build-shares-requires c κs = search needs
-
-enum-known-why : tie.Need-enum-known-why
-enum-known-why c = search needs
-
 word-of-requires : tie.Need-word-of-requires
 word-of-requires c κs =
+    let build-shares = c .before .before .before .before .before .build-shares in
     let start = c .before .before .before .before .before .before .before .before .before .before .before .before in
-    shares-fits (want start) (start .args .allotments .now) (c .before .before .before .before .before .build-shares .ensures) (c .before .why .given .1)
-
-enum-known-reading : tie.Need-enum-known-reading
-enum-known-reading c = search needs
-
-put-share-reading-requires : tie.Need-put-share-reading-requires
-put-share-reading-requires c κs = search needs
-
-same-length : tie.Need-same-length
-same-length c = search needs
+    shares-fits (want start) (start .args .allotments .now) (build-shares .ensures)
+    (c .before .why .given .1)
 
 returns-2 : tie.Need-returns-2
 returns-2 c =
@@ -45,32 +30,28 @@ returns-2 c =
     shares-refused (want start) (start .args .allotments .now) (start .args .answer .now) _ (at .before .before .if1 .left)
     (at .build-shares .ensures) (c .before .before .why .given .1) (c .word-of .ensures)
 
-same-length-2 : tie.Need-same-length-2
-same-length-2 c = search needs
-
-same-length-3 : tie.Need-same-length-3
-same-length-3 c = search needs
-
 returns-3 : tie.Need-returns-3
 returns-3 c =
+    let reading = c .before .before .before .before .before .reading in
     let at = c .before .before .before .before .before .before .before .before .before in
     let start = at .before .before .before .before .before .before .before in
     shares-answer (want start) (start .args .allotments .now) (start .args .answer .now) _ (at .before .before .if1 .left)
-    (at .build-shares .ensures) (c .before .before .before .before .before .reading .given .1) (c .before .before .put-share-reading .ensures)
+    (at .build-shares .ensures) (reading .given .1)
+    (c .before .before .put-share-reading .ensures)
 
 pub tickplume-shares-spec : {M : Type 1} → statement M
 tickplume-shares-spec =
     tie.close
     (tie.spec
-    too-short-requires
+    (λ c κs. search needs)
     returns
-    build-shares-requires
-    enum-known-why
+    (λ c κs. search needs)
+    (λ c. search needs)
     word-of-requires
-    enum-known-reading
-    put-share-reading-requires
-    same-length
+    (λ c. search needs)
+    (λ c κs. search needs)
+    (λ c. search needs)
     returns-2
-    same-length-2
-    same-length-3
+    (λ c. search needs)
+    (λ c. search needs)
     returns-3)

@@ -1,6 +1,7 @@
--- `tickplume_start`: the dispatcher's verdict as a word, or its state as 33 entries.
+-- `tickplume_start`: the dispatcher's verdict as a word, or its state in its entries.
 -- Assumes nothing.
 use mathlib.Core.Path.{refl}
+use Rattle.paper.specs.Limits.{stateRoom}
 use borrow.Author.Needs.{needs}
 use borrow.Author.Tests.{lt-ltb}
 use Rattle.plan_laws.proofs.Listed.{start-listed}
@@ -9,15 +10,8 @@ use Rattle.tickplume.proofs.Handing.{hands-fits, hands-told}
 use Rattle.tickplume.proofs.tickplume_start.Statement.{statement}
 use Rattle.tickplume.proofs.tickplume_start.Tie as tie
 
-too-short-requires : tie.Need-too-short-requires
-too-short-requires c κs = search needs
-
 returns : tie.Need-returns
-unfolding startCall
-returns c = rw (lt-ltb _ 33 (c .before .if1 .taken)) (record { said = c .too-short .ensures; left = refl })
-
-start-requires : tie.Need-start-requires
-start-requires c κs = search needs
+returns c = rw (lt-ltb _ stateRoom (c .before .if1 .taken)) (record { said = c .too-short .ensures; left = refl })
 
 hand-over-requires : tie.Need-hand-over-requires
 hand-over-requires c κs = (hands-fits (c .before .start .ensures) (start-listed _ _), c .before .before .if1 .left)
@@ -26,17 +20,17 @@ same-length : tie.Need-same-length
 same-length c = c .before .state .given
 
 returns-2 : tie.Need-returns-2
-unfolding startCall
 returns-2 c =
-    let at = c .before .before .before .before in hands-told (at .start .ensures) 33 (at .before .if1 .left) (c .before .before .hand-over .ensures)
+    let at = c .before .before .before .before in hands-told (at .start .ensures) stateRoom (at .before .if1 .left)
+    (c .before .before .hand-over .ensures)
 
 pub tickplume-start-spec : {M : Type 1} → statement M
 tickplume-start-spec =
     tie.close
     (tie.spec
-    too-short-requires
+    (λ c κs. search needs)
     returns
-    start-requires
+    (λ c κs. search needs)
     hand-over-requires
     same-length
     returns-2)
