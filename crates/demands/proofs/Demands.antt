@@ -125,8 +125,8 @@ module _ (b : List ℕ) (t : Table) (h : accepted b ≡ answer t) where
   -- the walk: in block 0 engine i runs row i, and from each block to the next an engine takes the row next in the chain to the one it had;
   -- at a tick it runs what stands on its row at the tick's unit
   pub walk-rows :
-      ((e : Engine) → rowAt (link t) 0 e ≡ row (e .0)) ×
-      ((n : ℕ) (e : Engine) → rowAt (link t) (n + 1) e ≡ row (nextOf (link t) (rowAt (link t) n e .0)))
+      ((e : Engine) → rowAt (link t) 0 e ≡ row (e .0))
+      × ((n : ℕ) (e : Engine) → rowAt (link t) (n + 1) e ≡ row (nextOf (link t) (rowAt (link t) n e .0)))
       × ((e : Engine) (k : ℕ) → walk t e k ≡ heldIn (t .runs) (rowAt (link t) (k / t .ticks) e) (k % t .ticks))
   walk-rows = (row-start (link t), row-after (link t), walk-is t)
 

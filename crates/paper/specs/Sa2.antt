@@ -1,6 +1,5 @@
 -- 004, section 3: SA2, for duties whose share of a block, T·C/D, is not a whole number of units. (004 counts blocks and tasks from 1, we
--- from
--- 0; its n processors are m engines here.)
+-- from 0; its n processors are m engines here.)
 --
 -- A need r is a fraction over the duty's period D. It may be below zero, and is never down to -1: step 4 takes less than a unit from a
 -- share. So what is held is r + 1 counted in D-ths, a whole number, the *raised* need. Nothing is rounded.

@@ -85,8 +85,8 @@ raisedBy s ns = tab (length ns) (λ i. let x = getD ns i (need 0 0) in (x .whole
 
 abbrev pub SaysShares : ShareCase → ShareFact → Type 0
 SaysShares c (notShared n p) = sharePlan (wantedIn c) (c .room) ≡ refused n p
-SaysShares c (sharedIn t b) = (sharePlan (wantedIn c) (c .room) ≡ answer (sharingIn c)) × (sharingIn c .ticks ≡ t) ×
-    (blocks (sharingIn c) ≡ b)
+SaysShares c (sharedIn t b) = (sharePlan (wantedIn c) (c .room) ≡ answer (sharingIn c)) × (sharingIn c .ticks ≡ t)
+    × (blocks (sharingIn c) ≡ b)
 SaysShares c (needing b ns) = needsAt (sharingIn c) b ≡ raisedBy (sharingIn c) ns
 SaysShares c (allotted b ns) = allotments (sharingIn c) b ≡ ns
 SaysShares c (belowZero b i) = raisedUnits (sharingIn c) (needsAt (sharingIn c) b) i ≡ 0

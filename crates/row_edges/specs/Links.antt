@@ -1,7 +1,6 @@
 -- The links of rows by their edges. The edges of the rows stand one after the other as on the line: of row r its first unit at 2·r and its
--- last at
--- 2·r + 1, each as a number that tells which duty holds it (0 for idle, else the duty's number and 1). So the edges that a link looks at
--- are neighbours.
+-- last at 2·r + 1, each as a number that tells which duty holds it (0 for idle, else the duty's number and 1). So the edges that a link
+-- looks at are neighbours.
 use Prim.Native.Nat.{ℕ, _+_, _*_}
 use mathlib.Core.Bool.{Bool, not, _&&_}
 use mathlib.Core.List.{List}
