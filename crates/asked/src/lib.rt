@@ -16,6 +16,7 @@ use paper::Engine;
 use paper::Judged;
 use paper::RowTold;
 use paper::State;
+use paper::limits::EDGES;
 use reply::reply_at;
 
 // A dispatcher, by its state.
@@ -25,9 +26,8 @@ pub struct Dispatcher(pub State);
 pub fn question(b: &[u8], engine: Engine, tick: u64) -> Answer
     ensures { λ r. ⌜ answerAs r ≡ question (now (b .entry)) engine tick ⌝ }
 {
-    let ruling = rule_on(b);
-    let edges = ruling.edges;
-    let judged = ruling.judged;
+    let mut edges = [0u32; EDGES];
+    let judged = rule_on(b, &mut edges);
     match judged {
         Judged::Accepted(rd) => reply_at(b, rd, &edges, engine, tick),
         Judged::Bad(fault) => Answer::Refused(refusal_of(fault)),
@@ -39,9 +39,8 @@ impl Dispatcher {
     pub fn start(b: &[u8], block: u64) -> Dispatched
         ensures { λ r. ⌜ Hands (start (now (b .entry)) block) r ⌝ }
     {
-        let ruling = rule_on(b);
-        let edges = ruling.edges;
-        let judged = ruling.judged;
+        let mut edges = [0u32; EDGES];
+        let judged = rule_on(b, &mut edges);
         match judged {
             Judged::Accepted(rd) => state_at(&edges, rd.engines, block),
             Judged::Bad(fault) => refuse(refusal_of(fault)),
@@ -53,9 +52,8 @@ impl Dispatcher {
         ensures { λ r. ⌜ Hands (advanced (now (b .entry)) (self .0)) r ⌝ }
     {
         let here = self.0;
-        let ruling = rule_on(b);
-        let edges = ruling.edges;
-        let judged = ruling.judged;
+        let mut edges = [0u32; EDGES];
+        let judged = rule_on(b, &mut edges);
         match judged {
             Judged::Accepted(rd) => advance(&edges, rd.engines, here),
             Judged::Bad(fault) => refuse(refusal_of(fault)),
@@ -67,9 +65,8 @@ impl Dispatcher {
         ensures { λ r. ⌜ rowAs r ≡ rowTold (now (b .entry)) (self .0) engine ⌝ }
     {
         let here = self.0;
-        let ruling = rule_on(b);
-        let edges = ruling.edges;
-        let judged = ruling.judged;
+        let mut edges = [0u32; EDGES];
+        let judged = rule_on(b, &mut edges);
         match judged {
             Judged::Accepted(rd) => tell(&edges, rd.engines, here, engine),
             Judged::Bad(fault) => RowTold::Refused(refusal_of(fault)),
@@ -81,9 +78,8 @@ impl Dispatcher {
 pub fn count(b: &[u8], blocks: u64) -> Counted
     ensures { λ r. ⌜ countAs r ≡ counted (now (b .entry)) blocks ⌝ }
 {
-    let ruling = rule_on(b);
-    let edges = ruling.edges;
-    let judged = ruling.judged;
+    let mut edges = [0u32; EDGES];
+    let judged = rule_on(b, &mut edges);
     match judged {
         Judged::Accepted(rd) => count_in(b, rd, &edges, blocks),
         Judged::Bad(fault) => Counted::Refused(refusal_of(fault)),

@@ -4,16 +4,16 @@ use Prim.Native.Nat.{ℕ}
 use mathlib.Core.Path.{_≡_, sym, ap, _∙_}
 use mathlib.Core.List.{List}
 use Rattle.paper.specs.declared.Fault.{Fault}
+use Rattle.paper.specs.declared.Judged.{Judged}
 use Rattle.paper.specs.declared.Judged.the-variants.{Bad}
 use Rattle.paper.specs.Outcome.{refusedAs, refusalOf, judgedAs}
 use Rattle.paper.specs.Rules.{judged}
 use Rattle.paper.proofs.Outcomes.{answered}
-use Rattle.judge.specs.declared.Ruling.{Ruling}
 use Rattle.judge.specs.Ruled.{Ruled}
 
-pub fault-ruled : {b : List ℕ} {r : Ruling} {f : Fault} → r .judged ≡ Bad f → judged b ≡ refusedAs (refusalOf f) → Ruled b r
-fault-ruled {b} {r} {f} q e =
+pub fault-ruled : {b edges : List ℕ} {f : Fault} → judged b ≡ refusedAs (refusalOf f) → Ruled b (Bad f) edges
+fault-ruled {b} {edges} {f} e =
     record {
-      told = ap judgedAs q ∙ sym e;
-      ready = λ rd p. answered rd (refusalOf f .number) (refusalOf f .place) (ap judgedAs (sym p ∙ q));
+      told = sym e;
+      ready = λ rd p. answered rd (refusalOf f .number) (refusalOf f .place) (ap judgedAs (sym p));
     }

@@ -1,10 +1,9 @@
 // The judge of tables: the form of the bytes, then the rules. One pass over the runs serves the judge and those who ask on.
 ghost use mathlib.Core.Path.{_≡_};
-ghost use Rattle.paper.specs.declared.Judged.the-variants.{Bad};
 ghost use Rattle.paper.specs.Outcome.{answer, andThen, judgedAs, refusalOf};
 ghost use Rattle.paper.specs.Rules.{judged, judgeDuties, judgeRuns, readingOf};
 ghost use Rattle.record_read.specs.Formed.{Formed, tableOf};
-ghost use Rattle.table_tally.specs.Tally.{edgesOf};
+ghost use Rattle.table_tally.specs.Tally.{noEdges, edgesOf};
 ghost use Rattle.judge.specs.Ruled.{Ruled};
 use judge_lowest::bad_slice;
 use judge_lowest::block_length_of;
@@ -14,15 +13,10 @@ use paper::Judged;
 use paper::Reading;
 use paper::Refusal;
 use paper::limits::EDGES;
+use paper::limits::MOST_DUTIES;
 use table_form::Form;
 use table_form::form_of;
-use table_tally::tally_of;
-
-// What judging leaves to those who ask on: the judge's answer, and the edges of an accepted table's rows.
-pub struct Ruling {
-    pub judged: Judged,
-    pub edges: [u32; EDGES],
-}
+use table_tally::tally;
 
 // Rules 11 and 12, of the duties of bytes in good form: the lower fault, or the reading.
 fn judge_duties(b: &[u8], rd: Reading) -> Judged
@@ -39,47 +33,38 @@ fn judge_duties(b: &[u8], rd: Reading) -> Judged
     Judged::Accepted(rd)
 }
 
-// A fault that needs no look at the runs. There are no edges to hand on.
-fn rule_on_fault(fault: Fault) -> Ruling
-    ensures { λ r. ⌜ r .judged ≡ Bad fault ⌝ }
+// The rules of the runs; the tally leaves the edges of the rows.
+fn rule_on_runs(b: &[u8], rd: Reading, edges: &mut [u32; EDGES]) -> Judged
+    requires { ⌜ Formed (now b) rd × (now edges ≡ noEdges) ⌝ }
+    ensures { λ r. ⌜ judgedAs r ≡ andThen (judgeRuns (tableOf (now (b .entry)) rd)) (λ t. answer (readingOf t)) ⌝ }
+    ensures { λ r. ⌜ now (edges .exit) ≡ edgesOf (tableOf (now (b .entry)) rd) ⌝ }
 {
-    let judged = Judged::Bad(fault);
-    let edges = [0u32; EDGES];
-    Ruling { judged, edges }
-}
-
-// The rules of the runs, with the edges that the tally has found.
-fn rule_on_runs(b: &[u8], rd: Reading) -> Ruling
-    requires { ⌜ Formed (now b) rd ⌝ }
-    ensures { λ r. ⌜ judgedAs (r .judged) ≡ andThen (judgeRuns (tableOf (now (b .entry)) rd)) (λ t. answer (readingOf t)) ⌝ }
-    ensures { λ r. ⌜ r .edges ≡ edgesOf (tableOf (now (b .entry)) rd) ⌝ }
-{
-    let tally = tally_of(b, rd);
-    let units = tally.units;
-    let edges = tally.edges;
-    let judged = judge_runs(b, rd, &units);
-    Ruling { judged, edges }
+    let mut units = [0u32; MOST_DUTIES];
+    tally(b, rd, &mut units, edges);
+    judge_runs(b, rd, &units)
 }
 
 // The rules' answer to bytes in good form: first those of the duties, which look at no run, then those of the runs.
-fn rule_on_form(b: &[u8], rd: Reading) -> Ruling
-    requires { ⌜ Formed (now b) rd ⌝ }
-    ensures { λ r. ⌜ Ruled (now (b .entry)) r ⌝ }
+fn rule_on_form(b: &[u8], rd: Reading, edges: &mut [u32; EDGES]) -> Judged
+    requires { ⌜ Formed (now b) rd × (now edges ≡ noEdges) ⌝ }
+    ensures { λ r. ⌜ Ruled (now (b .entry)) r (now (edges .exit)) ⌝ }
 {
     let duties = judge_duties(b, rd);
     match duties {
-        Judged::Bad(fault) => rule_on_fault(fault),
-        Judged::Accepted(_) => rule_on_runs(b, rd),
+        Judged::Bad(fault) => Judged::Bad(fault),
+        Judged::Accepted(_) => rule_on_runs(b, rd, edges),
     }
 }
 
-// Judges any bytes: the reading of an accepted table, or the lowest fault with its place; and the edges of its rows.
-pub fn rule_on(b: &[u8]) -> Ruling
-    ensures { λ r. ⌜ Ruled (now (b .entry)) r ⌝ }
+// Judges any bytes: the reading of an accepted table, or the lowest fault with its place. It leaves the edges of an accepted table's rows
+// to those who ask on, in a lent list of zeros.
+pub fn rule_on(b: &[u8], edges: &mut [u32; EDGES]) -> Judged
+    requires { ⌜ now edges ≡ noEdges ⌝ }
+    ensures { λ r. ⌜ Ruled (now (b .entry)) r (now (edges .exit)) ⌝ }
 {
     match form_of(b) {
-        Form::Good(rd) => rule_on_form(b, rd),
-        Form::Fault(at) => rule_on_fault(Fault::Form(at)),
+        Form::Good(rd) => rule_on_form(b, rd, edges),
+        Form::Fault(at) => Judged::Bad(Fault::Form(at)),
     }
 }
 
@@ -87,7 +72,8 @@ pub fn rule_on(b: &[u8]) -> Ruling
 pub fn judge(b: &[u8]) -> Judged
     ensures { λ r. ⌜ judgedAs r ≡ judged (now (b .entry)) ⌝ }
 {
-    rule_on(b).judged
+    let mut edges = [0u32; EDGES];
+    rule_on(b, &mut edges)
 }
 
 // A fault as a refusal: its number, and its offset, duty or run.

@@ -15,6 +15,7 @@ use paper::Input;
 use paper::Judged;
 use paper::Verdict;
 use paper::Written;
+use paper::limits::EDGES;
 use paper::limits::MOST_INPUT;
 use paper::limits::MOST_TABLE;
 use paper::limits::TEXT_ROOM;
@@ -26,9 +27,8 @@ fn print_plan(out: &mut [u8], table: &[u8]) -> usize
     requires { ⌜ textRoom ≤ length (now out) ⌝ }
     ensures { λ r. ⌜ Puts (printed (accepted (now (table .entry)))) (now (out .entry)) (now (out .exit)) r ⌝ }
 {
-    let ruling = rule_on(table);
-    let edges = ruling.edges;
-    let judged = ruling.judged;
+    let mut edges = [0u32; EDGES];
+    let judged = rule_on(table, &mut edges);
     match judged {
         Judged::Accepted(rd) => print_text(out, table, rd, &edges),
         Judged::Bad(fault) => print_refused(out, refusal_of(fault)),

@@ -51,9 +51,8 @@ fn fit_text(out: &mut [u8], b: &[u8], rd: Reading, edges: &[u32; EDGES]) -> Writ
 pub fn plan_text(table: &[u8], out: &mut [u8]) -> Written
     ensures { λ r. ⌜ Writes (textFor (now (table .entry)) (length (now (out .entry)))) r (now (out .entry)) (now (out .exit)) ⌝ }
 {
-    let ruling = rule_on(table);
-    let edges = ruling.edges;
-    let judged = ruling.judged;
+    let mut edges = [0u32; EDGES];
+    let judged = rule_on(table, &mut edges);
     match judged {
         Judged::Accepted(rd) => fit_text(out, table, rd, &edges),
         Judged::Bad(fault) => Written::Refused(refusal_of(fault)),

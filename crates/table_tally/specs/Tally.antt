@@ -3,6 +3,7 @@
 use Prim.Native.Nat.{ℕ, _+_, _-_, _/_, _%_}
 use mathlib.Core.List.{List}
 use lib.Dec.{eqb}
+use lib.ListN.{replicate}
 use Rattle.laws.specs.Choice.{pick}
 use Rattle.laws.specs.Lists.{tab}
 use Rattle.paper.specs.declared.Run.{Run}
@@ -11,6 +12,13 @@ use Rattle.paper.specs.declared.Held.the-variants.{Idle, By}
 use Rattle.paper.specs.Limits.{mostDuties, edgeCount}
 use Rattle.paper.specs.Words.{row, Table, heldIn}
 use Rattle.paper.specs.Rules.{unitsOf}
+
+-- before the first run is passed: no duty has a unit, and no row holds anything
+abbrev pub noUnits : List ℕ
+noUnits = replicate mostDuties 0
+
+abbrev pub noEdges : List ℕ
+noEdges = replicate edgeCount 0
 
 -- the units of all runs of each duty that there may be
 abbrev pub unitsIn : Table → List ℕ

@@ -10,16 +10,15 @@ use Rattle.judge.proofs.rule_on.Statement.{statement}
 use Rattle.judge.proofs.rule_on.Tie as tie
 
 rule-on-form-requires : tie.Need-rule-on-form-requires
-rule-on-form-requires c κs = formed _ _ (sym (c .before .before .before .form-of .ensures) ∙ ap formAs (c .before .rd .given .1))
-
-returns : tie.Need-returns
-returns c = search needs
+rule-on-form-requires c κs =
+    let start = c .before .before .before .before .before .before in
+    let form-of = c .before .before .before .before .form-of in
+    (formed _ _ (sym (form-of .ensures) ∙ ap formAs (c .before .before .rd .given .1)), start .pre)
 
 returns-2 : tie.Need-returns-2
 returns-2 c =
-    let form-of = c .before .before .before .before .form-of in
-    let bad = sym (form-of .ensures) ∙ ap formAs (c .before .before .at .given .1) in
-    fault-ruled (c .rule-on-fault .ensures) (form-refused _ bad)
+    let form-of = c .before .before .before .form-of in
+    fault-ruled (form-refused _ (sym (form-of .ensures) ∙ ap formAs (c .before .at .given .1)))
 
 pub rule-on-spec : {M : Type 1} → statement M
 rule-on-spec =
@@ -29,6 +28,5 @@ rule-on-spec =
     (λ c. search needs)
     rule-on-form-requires
     (λ c. search needs)
-    (λ c κs. search needs)
-    returns
+    (λ c. search needs)
     returns-2)

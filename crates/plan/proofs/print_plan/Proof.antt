@@ -8,17 +8,13 @@ use Rattle.paper.specs.Text.{printed}
 use Rattle.paper.specs.Outcome.{answer, andThen}
 use Rattle.paper.specs.Rules.{accepted}
 use Rattle.paper.proofs.Outcomes.{then-same}
-use Rattle.judge.proofs.Asked.{asked-accepted, asked-refused}
+use Rattle.judge.proofs.Asked.{ready-read, asked-accepted, asked-refused}
 use Rattle.plan.proofs.Printed.{puts-as}
 use Rattle.plan.proofs.print_plan.Statement.{statement}
 use Rattle.plan.proofs.print_plan.Tie as tie
 
 print-text-requires : tie.Need-print-text-requires
-print-text-requires c κs =
-    let rule-on = c .before .before .before .before .before .before .rule-on in (
-      rule-on .ensures .ready _ (c .before .before .before .judged .given .1),
-      search needs,
-    )
+print-text-requires c κs = (search ready-read, search needs)
 
 -- what is asked of the table is what is accepted
 same : (b : List ℕ) → andThen (accepted b) answer ≡ accepted b
@@ -26,7 +22,7 @@ same b = then-same (accepted b)
 
 returns : tie.Need-returns
 returns c =
-    let rule-on = c .before .before .before .before .before .before .before .before .before .rule-on in
+    let rule-on = c .before .before .before .before .before .before .before .before .rule-on in
     let judged = c .before .before .before .before .before .before .judged in
     let start = c .before .before .before .before .before .before .before .before .before .before .before .before in
     let b = c .before .before .before .before .before .before .before .before .before .before .before .before .args .table .now in
@@ -37,7 +33,7 @@ returns c =
 
 returns-2 : tie.Need-returns-2
 returns-2 c =
-    let rule-on = c .before .before .before .before .before .before .before .before .before .rule-on in
+    let rule-on = c .before .before .before .before .before .before .before .before .rule-on in
     let judged2 = c .before .before .before .before .before .before .judged2 in
     let start = c .before .before .before .before .before .before .before .before .before .before .before .before in
     let b = c .before .before .before .before .before .before .before .before .before .before .before .before .args .table .now in

@@ -9,7 +9,7 @@ use Rattle.paper.specs.Outcome.{Outcome}
 use Rattle.paper.specs.Builder.{fitted}
 use Rattle.paper.specs.Text.{planText}
 use Rattle.paper.proofs.Outcomes.{writes-same, writes-refused}
-use Rattle.judge.proofs.Asked.{asked-accepted, asked-refused}
+use Rattle.judge.proofs.Asked.{ready-read, asked-accepted, asked-refused}
 use borrow.Author.Needs.{needs}
 use Rattle.plan_text.proofs.plan_text.Statement.{statement}
 use Rattle.plan_text.proofs.plan_text.Tie as tie
@@ -19,15 +19,12 @@ abbrev asked : ℕ → Table → Outcome (List ℕ)
 asked room t = fitted room (planText t)
 
 fit-text-requires : tie.Need-fit-text-requires
-fit-text-requires c κs =
-    let rule-on = c .before .before .before .before .before .before .rule-on in
-    rule-on .ensures .ready _
-    (c .before .before .before .judged .given .1)
+fit-text-requires c κs = search ready-read
 
 returns : tie.Need-returns
 returns c =
     let start = c .before .before .before .before .before .before .before .before .before .before .before .before in
-    let rule-on = c .before .before .before .before .before .before .before .before .before .rule-on in
+    let rule-on = c .before .before .before .before .before .before .before .before .rule-on in
     let judged = c .before .before .before .before .before .before .judged in
     let room = length (start .args .out .now) in
     writes-same (sym (asked-accepted (rule-on .ensures)
@@ -35,7 +32,7 @@ returns c =
 
 returns-2 : tie.Need-returns-2
 returns-2 c =
-    let rule-on = c .before .before .before .before .before .rule-on in
+    let rule-on = c .before .before .before .before .rule-on in
     let l = c .before .before .before .before .before .before .before .before .args .out .now in
     let why = c .refusal-of in
     writes-refused (why .result) l

@@ -1,21 +1,18 @@
 -- `Dispatcher::next`: judged first; then the state after this one.
 -- Assumes nothing.
 use Rattle.paper.proofs.Calls.{hands-same}
-use Rattle.judge.proofs.Asked.{ready-read, asked-links, asked-refused}
+use Rattle.judge.proofs.Asked.{ready-engines, asked-links, asked-refused}
 use Rattle.paper.specs.Answers.{nextBy}
 use borrow.Author.Needs.{needs}
 use Rattle.asked.proofs.Dispatcher.next.Statement.{statement}
 use Rattle.asked.proofs.Dispatcher.next.Tie as tie
 
 advance-requires : tie.Need-advance-requires
-advance-requires c κs =
-    let rule-on = c .before .before .before .before .before .rule-on in
-    rule-on .ensures .ready _
-    (c .before .before .judged .given .1) .formed .engines-most
+advance-requires c κs = search ready-engines
 
 returns : tie.Need-returns
 returns c =
-    let rule-on = c .before .before .before .before .before .before .rule-on in
+    let rule-on = c .before .before .before .before .before .rule-on in
     let here = c .before .before .before .before .before .before .before .before .before .args .self .0 in
     hands-same (c .advance .ensures)
     (asked-links (rule-on .ensures) (λ l m. nextBy l m here)

@@ -1,21 +1,18 @@
 -- `Dispatcher::row`: judged first; then the row by this state.
 -- Assumes nothing.
 use mathlib.Core.Path.{_∙_}
-use Rattle.judge.proofs.Asked.{ready-read, asked-links, asked-refused}
+use Rattle.judge.proofs.Asked.{ready-engines, asked-links, asked-refused}
 use Rattle.paper.specs.Answers.{rowBy}
 use borrow.Author.Needs.{needs}
 use Rattle.asked.proofs.Dispatcher.row.Statement.{statement}
 use Rattle.asked.proofs.Dispatcher.row.Tie as tie
 
 tell-requires : tie.Need-tell-requires
-tell-requires c κs =
-    let rule-on = c .before .before .before .before .before .rule-on in
-    rule-on .ensures .ready _
-    (c .before .before .judged .given .1) .formed .engines-most
+tell-requires c κs = search ready-engines
 
 returns : tie.Need-returns
 returns c =
-    let rule-on = c .before .before .before .before .before .before .rule-on in
+    let rule-on = c .before .before .before .before .before .rule-on in
     let args = c .before .before .before .before .before .before .before .before .before .args in
     c .tell .ensures ∙ asked-links (rule-on .ensures)
     (λ l m. rowBy l m (args .self .0) (args .engine)) (c .before .before .before .judged .given .1)

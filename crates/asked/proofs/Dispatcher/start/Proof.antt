@@ -1,7 +1,7 @@
 -- `Dispatcher::start`: judged first; then the state of the block.
 -- Assumes nothing.
 use Rattle.paper.proofs.Calls.{hands-same}
-use Rattle.judge.proofs.Asked.{ready-read, asked-links, asked-refused}
+use Rattle.judge.proofs.Asked.{ready-engines, asked-links, asked-refused}
 use Rattle.paper.specs.Outcome.{answer}
 use Rattle.paper.specs.Answers.{stateAt}
 use borrow.Author.Needs.{needs}
@@ -9,14 +9,11 @@ use Rattle.asked.proofs.Dispatcher.start.Statement.{statement}
 use Rattle.asked.proofs.Dispatcher.start.Tie as tie
 
 state-at-requires : tie.Need-state-at-requires
-state-at-requires c κs =
-    let rule-on = c .before .before .before .before .before .rule-on in
-    rule-on .ensures .ready _
-    (c .before .before .judged .given .1) .formed .engines-most
+state-at-requires c κs = search ready-engines
 
 returns : tie.Need-returns
 returns c =
-    let rule-on = c .before .before .before .before .before .before .rule-on in
+    let rule-on = c .before .before .before .before .before .rule-on in
     let block = c .before .before .before .before .before .before .before .before .args .block in
     hands-same (c .state-at .ensures)
     (asked-links (rule-on .ensures) (λ l m. answer (stateAt l m block))
