@@ -1,14 +1,13 @@
-// A dispatcher's state, a block and the rows of all engines in it, worked out from the block's number; and what a state comes to: the state
-// of the block after it, the row of an engine, or a refusal with no state.
+// What a dispatcher's state, a block and the rows of all engines in it, comes to: whether it is the one for its block, the state of the
+// block after it, the row of an engine, or a refusal with no state.
 ghost use mathlib.Core.Path.{_≡_};
 ghost use Prim.Native.Nat.{_≤_};
-ghost use Rattle.laws.specs.Lists.{same-list};
 ghost use Rattle.paper.specs.Limits.{mostEngines};
-ghost use Rattle.paper.specs.Words.{rowNumbers};
 ghost use Rattle.paper.specs.Outcome.{answer, refusedAs};
-ghost use Rattle.paper.specs.Answers.{Hands, rowsAt, stateAt, isState, nextBy, rowBy, rowAs};
+ghost use Rattle.paper.specs.Answers.{Hands, stateAt, isState, nextBy, rowBy, rowAs};
 ghost use Rattle.row_edges.specs.Links.{linkOf};
-ghost use Rattle.rotation.specs.Turning.{IsTurned};
+use dispatch_rows::rows_at;
+use dispatch_rows::same_rows;
 use paper::Dispatched;
 use paper::Engine;
 use paper::Refusal;
@@ -19,53 +18,7 @@ use paper::Verdict;
 use paper::limits::EDGES;
 use paper::limits::LAST_BLOCK;
 use paper::limits::MOST_ENGINES;
-use rotation::Turned;
 use rotation::row_in;
-use rotation::row_of;
-use rotation::turned_at;
-
-// The chain of a row in a block, where that of an earlier row is known: the same, or the next.
-fn onward(edges: &[u32; EDGES], block: u64, turned: Turned, row: Row) -> Turned
-    requires { ⌜ (turned .chain .first .0 ≤ row .0) × (row .0 ≤ mostEngines) ⌝ }
-    requires { ⌜ IsTurned (linkOf (now edges)) block (turned .chain .first .0) turned ⌝ }
-    ensures { λ r. ⌜ IsTurned (linkOf (now (edges .entry))) block (row .0) r ⌝ }
-{
-    if row.0 < turned.chain.first.0 + turned.chain.length {
-        return turned;
-    }
-    turned_at(edges, row, block)
-}
-
-// The rows of all engines in a block: one chain after the other, each found once.
-fn rows_at(edges: &[u32; EDGES], engines: u32, block: u64) -> [Row; MOST_ENGINES]
-    requires { ⌜ engines ≤ mostEngines ⌝ }
-    ensures { λ r. ⌜ r ≡ rowsAt (linkOf (now (edges .entry))) engines block ⌝ }
-{
-    let mut rows = [Row(0); MOST_ENGINES];
-    let mut turned = turned_at(edges, Row(0), block);
-    let mut i: u32 = 0;
-    while i < engines {
-        turned = onward(edges, block, turned, Row(i));
-        let at = i as usize;
-        rows[at] = row_of(turned, Engine(i));
-        i += 1;
-    }
-    rows
-}
-
-// Whether two lists of rows are the same.
-fn same_rows(a: [Row; MOST_ENGINES], b: [Row; MOST_ENGINES]) -> bool
-    ensures { λ r. ⌜ r ≡ same-list (rowNumbers a) (rowNumbers b) ⌝ }
-{
-    let mut i = 0;
-    while i < MOST_ENGINES {
-        if a[i].0 != b[i].0 {
-            return false;
-        }
-        i += 1;
-    }
-    true
-}
 
 // Whether a state is the one for its block.
 fn is_own(edges: &[u32; EDGES], engines: u32, s: State) -> bool

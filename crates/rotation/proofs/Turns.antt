@@ -1,7 +1,7 @@
 -- A chain in a block: the engine of each of its rows has, that block, the row so many places further round (the closed form of the
 -- rotation).
 -- Assumes nothing.
-use Prim.Native.Nat.{ℕ, _%_, _<_}
+use Prim.Native.Nat.{ℕ, _+_, _%_, _≤_, _<_}
 use mathlib.Core.Path.{_≡_, sym, ap, _∙_}
 use mathlib.Core.Bool.{Bool}
 use native.Mathlib.Nat.{mod-lt}
@@ -19,12 +19,6 @@ module _ {c : ℕ → Bool} {b r : ℕ} {x : Turned} (t : IsTurned c b r x) wher
   pub row-turned : round (x .chain) r (x .places) ≡ rowAt c b (engine r)
   row-turned = ap (round (x .chain) r) (t .places) ∙ sym (row-reduced c b (t .chained))
 
-  -- it is its first row's chain too
-  pub turned-first : IsTurned c b (x .chain .first .0) x
-  turned-first =
-      record {
-        chained = chain-other c (x .chain .first .0) (t .chained) (omega arith) (omega (arith, t .chained));
-        most =
-            t .most;
-        places = t .places;
-      }
+  -- it is the chain of each of its rows
+  pub turned-other : (s : ℕ) → x .chain .first .0 ≤ s → s < x .chain .first .0 + x .chain .length → IsTurned c b s x
+  turned-other s l h = record { chained = chain-other c s (t .chained) l h; most = t .most; places = t .places }

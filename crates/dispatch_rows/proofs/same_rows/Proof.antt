@@ -7,9 +7,9 @@ use lib.ListN.{getD}
 use borrow.Author.Count.{below-none, below-more}
 use Rattle.paper.specs.Limits.{mostEngines}
 use Rattle.paper.specs.Words.{row}
-use Rattle.dispatch_state.proofs.Filling.{same-not, same-all}
-use Rattle.dispatch_state.proofs.same_rows.Statement.{statement}
-use Rattle.dispatch_state.proofs.same_rows.Tie as tie
+use Rattle.dispatch_rows.proofs.Filling.{same-not, same-all}
+use Rattle.dispatch_rows.proofs.same_rows.Statement.{statement}
+use Rattle.dispatch_rows.proofs.same_rows.Tie as tie
 
 abbrev Inv-loop : tie.InvT-loop
 Inv-loop a b i₀ i = (i ≤ mostEngines) × ((k : ℕ) → k < i → getD a k (row 0) .0 ≡ getD b k (row 0) .0)
