@@ -12,8 +12,8 @@ use duty_lists::take_duties;
 use paper::Refusal;
 use paper::Verdict;
 use paper::Written;
+use sa1_measure::measure;
 use sa1_runs::fit_table;
-use sa1_table::measure;
 use sa1_table::put_table;
 use slices::gcd_of_all;
 

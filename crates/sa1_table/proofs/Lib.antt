@@ -1,4 +1,4 @@
-pub mod LaidLeft
+pub mod BytesLeft
 pub mod RunBytes
 pub mod Table
 pub mod Recording

@@ -19,7 +19,8 @@ use Rattle.table_laws.proofs.Bytes.{length-duty}
 use Rattle.sa1_runs.specs.declared.Place.{Place}
 use Rattle.sa1_runs.specs.Laying.{placeAfter, laidAt, laidFrom, runsAt, corner}
 use Rattle.sa1_table.specs.RunBytes.{runsBytes, recordsBytes, recordsLength}
-use Rattle.sa1_table.proofs.LaidLeft.{bytes-left, bytes-none, count-left}
+use Rattle.sa1_measure.proofs.LaidLeft.{count-left}
+use Rattle.sa1_table.proofs.BytesLeft.{bytes-left, bytes-none}
 use Rattle.sa1_table.proofs.RunBytes.{runs-bytes, bytes-length}
 use Rattle.sa1_table.proofs.Table.{duties-bytes, lent, back}
 
@@ -96,3 +97,16 @@ pub recording-end :
     {t : ℕ} {ds : List Duty} {l out : List ℕ} {at i : ℕ} {p : Place} → Recording t ds l out at i p → length ds ≤ i
     → out ≡ over (recordsBytes t ds) l
 recording-end {t} {ds} {l} {out} {at} {i} {p} r h = both-done (both-next (flat-none dutyBytes ds i h) (bytes-none t ds i p h) (r .both))
+
+-- .. and how long they are
+pub recording-length :
+    {t : ℕ} {ds : List Duty} {l out : List ℕ} {at i : ℕ} {p : Place} → Recording t ds l out at i p → length ds ≤ i
+    → at ≡ recordsLength t ds
+recording-length {t} {ds} {l} {out} {at} {i} {p} r h =
+    omega (
+      arith,
+      both-room (r .both) .1,
+      ap length (bytes-none t ds i p h),
+      duties-bytes ds,
+      runs-bytes (laidFrom t (slices t ds) 0 corner),
+    )

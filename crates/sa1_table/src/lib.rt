@@ -1,5 +1,4 @@
-// SA1's table: its slices measured, which tells whether they are whole and whether it fits; and its bytes, the head, the duties, the runs
-// and the end.
+// The bytes of SA1's table: the head, the duties, the runs and the end.
 ghost use mathlib.Core.Path.{_≡_};
 ghost use Prim.Native.Nat.{_+_, _*_, _≤_, _<_};
 ghost use lib.ListN.{length};
@@ -10,7 +9,6 @@ ghost use Rattle.paper.specs.Bytes.{bytesOf};
 ghost use Rattle.paper.specs.Wanted.{dutiesOf};
 ghost use Rattle.duty_lists.specs.Sliceable.{Sliceable};
 ghost use Rattle.sa1_runs.specs.Laying.{laidAt, laidFrom, runsAt, corner};
-ghost use Rattle.sa1_table.specs.Layouts.{Measured};
 ghost use Rattle.sa1_table.specs.RunBytes.{runsBytes, recordsBytes, recordsLength};
 use duty_lists::duty_at;
 use paper::Row;
@@ -26,47 +24,7 @@ use sa1_runs::after;
 use sa1_runs::first_run;
 use sa1_runs::runs_at;
 use sa1_runs::second_run;
-use slices::share_of;
 use slices::slice_of;
-
-// What the slices come to when they are laid one after the other: the first duty whose slice is not whole, or how many there are; how many
-// runs they make up to it; and the place after the last of these.
-pub struct Layout {
-    pub bad: usize,
-    pub runs: usize,
-    pub end: Place,
-}
-
-// Lays the slices of all duties by SA1, from unit 0 of row 0 on, up to the first that is not whole, and writes nothing.
-pub fn measure(t: u32, services: &[u32], periods: &[u32]) -> Layout
-    requires { ⌜ Sliceable t (now services) (now periods) ⌝ }
-    ensures { λ r. ⌜ Measured t (dutiesOf (now (services .entry)) (now (periods .entry))) r ⌝ }
-{
-    let mut runs = 0;
-    let mut place = Place {
-        row: Row(0),
-        unit: 0,
-    };
-    let mut i = 0;
-    while i < services.len() {
-        let share = share_of(t, duty_at(services, periods, i));
-        if 0 < share.rest {
-            return Layout {
-                bad: i,
-                runs,
-                end: place,
-            };
-        }
-        runs += runs_at(t, share.units, place.unit);
-        place = after(t, share.units, place);
-        i += 1;
-    }
-    Layout {
-        bad: i,
-        runs,
-        end: place,
-    }
-}
 
 // Writes the runs of duty i, whose slice is n, each where the last one stopped, and answers how many bytes they have.
 fn put_duty_runs(out: &mut [u8], t: u32, n: u32, i: u32, from: Place) -> usize
@@ -84,12 +42,13 @@ fn put_duty_runs(out: &mut [u8], t: u32, n: u32, i: u32, from: Place) -> usize
 }
 
 // Writes the duties over the front of the lent rest and SA1's runs behind them, a duty's record and its runs by turns, each where the last
-// of its kind stopped.
-fn put_records(out: &mut [u8], t: u32, services: &[u32], periods: &[u32])
+// of its kind stopped. Answers how many bytes they have.
+fn put_records(out: &mut [u8], t: u32, services: &[u32], periods: &[u32]) -> usize
     requires { ⌜ Sliceable t (now services) (now periods)
         × (recordsLength t (dutiesOf (now services) (now periods)) ≤ length (now out)) ⌝ }
-    ensures { λ r. ⌜ now (out .exit)
-        ≡ over (recordsBytes t (dutiesOf (now (services .entry)) (now (periods .entry)))) (now (out .entry)) ⌝ }
+    ensures { λ r. ⌜ (now (out .exit)
+        ≡ over (recordsBytes t (dutiesOf (now (services .entry)) (now (periods .entry)))) (now (out .entry)))
+        × (r ≡ recordsLength t (dutiesOf (now (services .entry)) (now (periods .entry)))) ⌝ }
 {
     let mut at = DUTY_LENGTH * services.len();
     let mut place = Place {
@@ -106,6 +65,7 @@ fn put_records(out: &mut [u8], t: u32, services: &[u32], periods: &[u32])
         place = after(t, n, place);
         i += 1;
     }
+    at
 }
 
 // Writes SA1's table over the front of a buffer that has the room: head, duties, runs, end. The block length is any in range.
@@ -123,9 +83,7 @@ pub fn put_table(
     ensures { λ r. ⌜ now (out .exit)
         ≡ over (bytesOf (sa1 t engines (dutiesOf (now (services .entry)) (now (periods .entry))))) (now (out .entry)) ⌝ }
 {
-    let duties = services.len();
-    put_head(out, t, engines, duties as u32);
-    put_records(&mut out[HEAD_LENGTH..], t, services, periods);
-    let end = HEAD_LENGTH + DUTY_LENGTH * duties + RUN_LENGTH * runs;
+    put_head(out, t, engines, services.len() as u32);
+    let end = HEAD_LENGTH + put_records(&mut out[HEAD_LENGTH..], t, services, periods);
     put_end(&mut out[end..], runs as u32);
 }

@@ -18,7 +18,7 @@ use Rattle.paper.proofs.Outcomes.{writes-refused, writes-length}
 use Rattle.plan_laws.proofs.Planned.{length-duties}
 use Rattle.sa1_runs.specs.Laying.{unitsTo}
 use Rattle.sa1_runs.proofs.Fitting.{fitted-told}
-use Rattle.sa1_table.specs.Layouts.{LaidOut}
+use Rattle.sa1_measure.specs.Layouts.{LaidOut}
 use Rattle.sa1_table.proofs.Table.{sa1-length}
 use Rattle.builder.specs.BuildAt.{buildAt}
 use Rattle.builder.proofs.Sized.{refusal-6, past-6}

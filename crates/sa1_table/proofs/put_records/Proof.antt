@@ -16,7 +16,8 @@ use Rattle.paper.specs.Wanted.{dutiesOf}
 use Rattle.plan_laws.proofs.Planned.{length-duties}
 use Rattle.duty_lists.proofs.Duties.{share-asked}
 use Rattle.sa1_runs.specs.Laying.{runsAt}
-use Rattle.sa1_table.proofs.Recording.{Recording, recording-none, duty-room, runs-room, recording-more, recording-end}
+use Rattle.sa1_table.proofs.Recording.{Recording, recording-none, duty-room, runs-room}
+use Rattle.sa1_table.proofs.Recording.{recording-more, recording-end, recording-length}
 use Rattle.sa1_table.proofs.put_records.Statement.{statement}
 use Rattle.sa1_table.proofs.put_records.Tie as tie
 
@@ -133,7 +134,9 @@ same-length c = c .before .loop .inv .long
 returns : tie.Need-returns Inv-loop μ-loop
 returns c =
     let args = c .before .before .before .before .before .args in
-    recording-end (c .before .loop .inv) (omega (arith, length-duties (args .services .now) (args .periods .now)))
+    let ds = dutiesOf (args .services .now) (args .periods .now) in
+    let all : length ds ≤ c .before .loop .i = omega (arith, length-duties (args .services .now) (args .periods .now)) in
+    (recording-end (c .before .loop .inv) all, recording-length (c .before .loop .inv) all)
 
 pub put-records-spec : {M : Type 1} → statement M
 put-records-spec =

@@ -1,6 +1,6 @@
 -- `put_table`: the head over the front, then the duties with their runs, and the end, each behind the last.
 -- Assumes nothing.
-use Prim.Native.Nat.{ℕ, _+_}
+use Prim.Native.Nat.{ℕ, _+_, _*_}
 use mathlib.Core.Path.{_≡_, sym, ap, _∙_}
 use mathlib.Core.List.{List}
 use native.Mathlib.Omega.{arith}
@@ -8,8 +8,8 @@ use native.Mathlib.Nat.{le-refl}
 use lib.ListN.{length}
 use Rattle.laws.specs.Lists.{over}
 use Rattle.laws.proofs.Writing.{length-lent}
-use Rattle.paper.specs.Limits.{small, headLength}
-use Rattle.paper.specs.Bytes.{endBytes, runPlace}
+use Rattle.paper.specs.Limits.{small, headLength, dutyLength, runLength}
+use Rattle.paper.specs.Bytes.{endBytes}
 use Rattle.paper.specs.Wanted.{dutiesOf}
 use Rattle.record_write.specs.Head.{headOf}
 use Rattle.plan_laws.proofs.Planned.{length-duties}
@@ -27,8 +27,22 @@ put-records-requires c κs =
     let many = length-duties (start .args .services .now) (start .args .periods .now) in
     (start .pre .0, rw length-lent (omega (arith, many, start .pre .1, start .pre .3, c .before .before .out .given)))
 
+-- the records end where the end's record begins
+ended :
+    (c : tie.After-put-records) → let args = c .before .before .before .before .before .before .before .before .before .args in
+    c .put-records .result ≡ dutyLength * length (args .services .now) + runLength small * args .runs
+ended c =
+    let start = c .before .before .before .before .before .before .before .before .before in
+    omega (arith, c .put-records .ensures .1, length-duties (start .args .services .now) (start .args .periods .now), start .pre .1)
+
+add-end : tie.Need-add-end
+add-end c = omega (arith, ended (c .before .before))
+
 sub-put-end : tie.Need-sub-put-end
-sub-put-end c = omega arith
+sub-put-end c = omega (arith, ended (c .before .before))
+
+put-end-requires : tie.Need-put-end-requires
+put-end-requires c κs = omega (arith, ended (c .before .before .before))
 
 cast-put-end : tie.Need-cast-put-end
 cast-put-end c =
@@ -54,9 +68,10 @@ returns c =
     let runs = args .runs in
     let many = length-duties (args .services .now) (args .periods .now) in
     let W = recordsBytes t ds in
-    let long : headLength small + length W ≡ runPlace small n runs = omega (arith, records-length t ds, many, start .pre .1) in
-    parts-written (headOf t (args .engines) n) W (endBytes runs) (args .out .now) _ _ _ (headLength small) (runPlace small n runs)
-    (head-of-length t (args .engines) n) long (head .put-head .ensures) (records .put-records .ensures) (end .put-end .ensures)
+    let end-place = headLength small + records .put-records .result in
+    let long : headLength small + length W ≡ end-place = omega (arith, records-length t ds, records .put-records .ensures .1) in
+    parts-written (headOf t (args .engines) n) W (endBytes runs) (args .out .now) _ _ _ (headLength small) end-place
+    (head-of-length t (args .engines) n) long (head .put-head .ensures) (records .put-records .ensures .0) (end .put-end .ensures)
     ∙ ap (λ (w : List ℕ). over w (args .out .now)) (sym (table-is t (args .engines) n runs ds (sym many) (start .pre .1)))
 
 pub put-table-spec : {M : Type 1} → statement M
@@ -69,14 +84,11 @@ put-table-spec =
     sub-put-records
     (λ c. le-refl _)
     put-records-requires
-    (λ c. omega arith)
-    (λ c. omega arith)
-    (λ c. omega arith)
-    (λ c. omega arith)
+    add-end
     sub-put-end
     sub-put-end
     (λ c. le-refl _)
     cast-put-end
-    (λ c κs. omega arith)
+    put-end-requires
     same-length
     returns)

@@ -20,9 +20,9 @@ use Rattle.slices.proofs.Shares.{whole-is}
 use Rattle.duty_lists.proofs.Duties.{share-asked, total-left, total-none}
 use Rattle.sa1_runs.specs.Laying.{laidFrom, corner, unitsTo}
 use Rattle.sa1_runs.proofs.Laying.{units-after}
-use Rattle.sa1_table.proofs.LaidLeft.{count-left, count-none}
-use Rattle.sa1_table.proofs.measure.Statement.{statement}
-use Rattle.sa1_table.proofs.measure.Tie as tie
+use Rattle.sa1_measure.proofs.LaidLeft.{count-left, count-none}
+use Rattle.sa1_measure.proofs.measure.Statement.{statement}
+use Rattle.sa1_measure.proofs.measure.Tie as tie
 
 abbrev Inv-loop : tie.InvT-loop
 Inv-loop t services periods runs₀ place₀ i₀ runs place i =

@@ -1,23 +1,18 @@
--- SA1 duty by duty: what is left to lay, to count and to write at duty i is its own slice, and from the place after it what is left at the
--- next.
+-- SA1 duty by duty: what is left to lay and to count at duty i is its own slice, and from the place after it what is left at the next.
 -- Assumes nothing.
 use Prim.Native.Nat.{ℕ, _+_, _≤_, _<_}
 use mathlib.Core.Path.{_≡_, sym, ap, _∙_}
 use mathlib.Core.List.{List, [], _∷_, _++_}
 use native.Mathlib.Omega.{arith}
 use lib.ListN.{length, drop, length-append}
-use Rattle.laws.proofs.Lists.{flat-append, flat-end}
 use Rattle.paper.specs.declared.Duty.{Duty}
 use Rattle.paper.specs.Duties.{dutyAt}
 use Rattle.paper.specs.Words.{slice}
 use Rattle.paper.specs.Sa1.{slices}
-use Rattle.paper.specs.Limits.{small}
-use Rattle.paper.specs.Bytes.{runBytes}
 use Rattle.plan_laws.proofs.Sa1.{lay-step, lay-end}
 use Rattle.duty_lists.proofs.Duties.{slices-left, slices-none}
 use Rattle.sa1_runs.specs.declared.Place.{Place}
 use Rattle.sa1_runs.specs.Laying.{placeAfter, laidAt, laidFrom, runsAt}
-use Rattle.sa1_table.specs.RunBytes.{runsBytes}
 use Rattle.sa1_runs.proofs.Laying.{laid-length}
 
 -- what is left to lay at duty i from place p on: its n units, and from the place q after them what is left at the next duty
@@ -44,15 +39,3 @@ count-left t n ds i p q h e f =
 
 pub count-none : (t : ℕ) (ds : List Duty) (i : ℕ) (p : Place) → length ds ≤ i → length (laidFrom t (drop i (slices t ds)) i p) ≡ 0
 count-none t ds i p h = ap length (lay-none t ds i p h)
-
--- the same by their bytes
-pub bytes-left :
-    (t n : ℕ) (ds : List Duty) (i : ℕ) (p q : Place) → i < length ds → n ≡ slice t (dutyAt ds i) → q ≡ placeAfter t n p
-    → runsBytes (laidFrom t (drop i (slices t ds)) i p)
-    ≡ runsBytes (laidAt t n i p) ++ runsBytes (laidFrom t (drop (i + 1) (slices t ds)) (i + 1) q)
-bytes-left t n ds i p q h e f =
-    ap runsBytes (lay-left t n ds i p q h e f)
-    ∙ flat-append (runBytes small) (laidAt t n i p) (laidFrom t (drop (i + 1) (slices t ds)) (i + 1) q)
-
-pub bytes-none : (t : ℕ) (ds : List Duty) (i : ℕ) (p : Place) → length ds ≤ i → runsBytes (laidFrom t (drop i (slices t ds)) i p) ≡ []
-bytes-none t ds i p h = ap runsBytes (lay-none t ds i p h) ∙ flat-end (runBytes small)

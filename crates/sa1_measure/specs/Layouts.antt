@@ -8,7 +8,7 @@ use Rattle.paper.specs.declared.Duty.{Duty}
 use Rattle.paper.specs.Sa1.{slices}
 use Rattle.paper.specs.Builder.{badSlice}
 use Rattle.sa1_runs.specs.Laying.{laidFrom, corner, unitsTo}
-use Rattle.sa1_table.specs.declared.Layout.{Layout}
+use Rattle.sa1_measure.specs.declared.Layout.{Layout}
 
 -- its runs are as many as SA1 makes, at most two of each duty; before its end are as many units as the slices have; a duty moves the row by
 -- one at the most
