@@ -1,16 +1,13 @@
-// SA2 over many blocks: up to the first that comes short, with the cuts kept; or all of them into a list, by their cuts. And who has a
-// place of one block's line.
+// SA2 over many blocks: up to the first that comes short, with the cuts kept; or all of them into a list, by their cuts.
 ghost use mathlib.Core.Path.{_≡_};
 ghost use Prim.Native.Nat.{_*_, _≤_};
 ghost use lib.ListN.{length};
 ghost use Rattle.laws.specs.Lists.{over};
-ghost use Rattle.paper.specs.Limits.{mostEngines, mostDuties};
-ghost use Rattle.plan_laws.proofs.Line.{onLine};
+ghost use Rattle.paper.specs.Limits.{mostEngines};
 ghost use Rattle.duty_lists.specs.Sliceable.{Sliceable};
 ghost use Rattle.share_laws.specs.Cut.{HasCuts};
 ghost use Rattle.share_block.specs.Paced.{sharingBy, Rated, Needed, Paced};
 ghost use Rattle.share_pass.specs.Passing.{Passed, CutsKept, allotted};
-use paper::Held;
 use share_block::share_block;
 use share_block::share_by_cut;
 
@@ -121,22 +118,4 @@ pub fn put_blocks(
         at += services.len();
         b += 1;
     }
-}
-
-// Who has a place of the line on which a block's units are laid, duty after duty.
-pub fn held_at(units: &[u32], place: u32) -> Held
-    requires { ⌜ length (now units) ≤ mostDuties ⌝ }
-    ensures { λ r. ⌜ r ≡ onLine (now (units .entry)) 0 0 place ⌝ }
-{
-    let mut left = place;
-    let mut i = 0;
-    while i < units.len() {
-        let n = units[i];
-        if left < n {
-            return Held::By(i as u32);
-        }
-        left -= n;
-        i += 1;
-    }
-    Held::Idle
 }

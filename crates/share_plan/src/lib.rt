@@ -17,7 +17,7 @@ use paper::limits::MOST_DUTIES;
 use paper::limits::MOST_SHARE_BLOCKS;
 use share_common::BlockCount;
 use share_common::block_count;
-use share_pass::held_at;
+use share_holder::held_at;
 use share_survey::survey;
 use share_survey::write_list;
 use slices::gcd_of_all;

@@ -11,8 +11,8 @@ use lib.Seq.{drop-cons}
 use borrow.Author.Needs.{needs}
 use Rattle.paper.specs.declared.Held.the-variants.{By}
 use Rattle.plan_laws.proofs.Line.{onLine, first-has, first-not, none-has}
-use Rattle.share_pass.proofs.held_at.Statement.{statement}
-use Rattle.share_pass.proofs.held_at.Tie as tie
+use Rattle.share_holder.proofs.held_at.Statement.{statement}
+use Rattle.share_holder.proofs.held_at.Tie as tie
 
 -- where `left` of the place p is left
 has : (ns : List ℕ) (i left p : ℕ) → i < length ns → left ≤ p → left < getD ns i 0 → onLine (drop i ns) i (p - left) p ≡ By i
