@@ -18,8 +18,8 @@ use paper::limits::MOST_SHARE_BLOCKS;
 use share_common::BlockCount;
 use share_common::block_count;
 use share_holder::held_at;
+use share_list::write_list;
 use share_survey::survey;
-use share_survey::write_list;
 use slices::gcd_of_all;
 
 // The block length, and the blocks up to the periods' common multiple.

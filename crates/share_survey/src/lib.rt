@@ -1,19 +1,14 @@
-// A plan of shares looked through before anything is written, and then written by the cuts that were found. The four lists of shares and
-// needs stand here, one entry for each duty.
+// A plan of shares looked through, before anything is written. The four lists of shares and needs stand here, one entry for each duty.
 ghost use mathlib.Core.Path.{_≡_};
-ghost use Prim.Native.Nat.{_*_, _≤_, _<_};
+ghost use Prim.Native.Nat.{_≤_, _<_};
 ghost use lib.ListN.{length};
-ghost use Rattle.laws.specs.Lists.{over};
 ghost use Rattle.paper.specs.Limits.{mostEngines};
 ghost use Rattle.duty_lists.specs.Sliceable.{Sliceable};
-ghost use Rattle.share_laws.specs.Cut.{HasCuts};
 ghost use Rattle.share_block.specs.Paced.{sharingBy, Lent, Rated, Paced};
-ghost use Rattle.share_pass.specs.Passing.{allotted};
 ghost use Rattle.share_survey.specs.Looking.{Looked};
 use paper::limits::MOST_DUTIES;
 use share_block::begin;
 use share_pass::pass_blocks;
-use share_pass::put_blocks;
 
 // The blocks looked at in one pass, from the needs before the first: the first that comes short, or how many there are. What block `keep`
 // gives stays in `units`, and the blocks' cuts in `cuts`.
@@ -154,77 +149,4 @@ pub fn survey(
         &mut spare,
         cuts,
     )
-}
-
-// All blocks' allotments written, block by block, by the cuts that were found.
-fn write_through(
-    t: u32,
-    engines: u32,
-    services: &[u32],
-    periods: &[u32],
-    blocks: u32,
-    cuts: &[u8],
-    rate: &mut [u32],
-    rest: &mut [u32],
-    whole: &mut [u32],
-    part: &mut [u32],
-    list: &mut [u32],
-)
-    requires { ⌜ Sliceable t (now services) (now periods) × (blocks ≤ length (now cuts))
-        × (blocks * length (now services) ≤ length (now list)) ⌝ }
-    requires { ⌜ Lent (now services) (now rate) (now rest) (now whole) (now part) ⌝ }
-    requires { ⌜ HasCuts (sharingBy t engines (now services) (now periods)) 0 blocks (now cuts) ⌝ }
-    ensures { λ r. ⌜ now (list .exit)
-        ≡ over (allotted (sharingBy t engines (now (services .entry)) (now (periods .entry))) blocks) (now (list .entry)) ⌝ }
-{
-    begin(t, engines, services, periods, rate, rest, whole, part);
-    put_blocks(
-        t,
-        engines,
-        services,
-        periods,
-        rate,
-        rest,
-        blocks,
-        cuts,
-        whole,
-        part,
-        list,
-    );
-}
-
-// The same, with room for the lists.
-pub fn write_list(
-    t: u32,
-    engines: u32,
-    services: &[u32],
-    periods: &[u32],
-    blocks: u32,
-    cuts: &[u8],
-    list: &mut [u32],
-)
-    requires { ⌜ Sliceable t (now services) (now periods) × (blocks ≤ length (now cuts))
-        × (blocks * length (now services) ≤ length (now list)) ⌝ }
-    requires { ⌜ HasCuts (sharingBy t engines (now services) (now periods)) 0 blocks (now cuts) ⌝ }
-    ensures { λ r. ⌜ now (list .exit)
-        ≡ over (allotted (sharingBy t engines (now (services .entry)) (now (periods .entry))) blocks) (now (list .entry)) ⌝ }
-{
-    let n = services.len();
-    let mut rate = [0u32; MOST_DUTIES];
-    let mut rest = [0u32; MOST_DUTIES];
-    let mut whole = [0u32; MOST_DUTIES];
-    let mut part = [0u32; MOST_DUTIES];
-    write_through(
-        t,
-        engines,
-        services,
-        periods,
-        blocks,
-        cuts,
-        &mut rate[..n],
-        &mut rest[..n],
-        &mut whole[..n],
-        &mut part[..n],
-        list,
-    );
 }

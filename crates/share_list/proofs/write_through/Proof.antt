@@ -1,8 +1,8 @@
 -- `write_through`: the shares and the first needs are what `put_blocks` asks for.
 -- Assumes nothing.
 use borrow.Author.Needs.{needs}
-use Rattle.share_survey.proofs.write_through.Statement.{statement}
-use Rattle.share_survey.proofs.write_through.Tie as tie
+use Rattle.share_list.proofs.write_through.Statement.{statement}
+use Rattle.share_list.proofs.write_through.Tie as tie
 
 put-blocks-requires : tie.Need-put-blocks-requires
 put-blocks-requires c κs =

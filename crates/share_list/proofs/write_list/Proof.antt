@@ -3,8 +3,8 @@
 use mathlib.Core.Path.{sym}
 use lib.Seq.{length-take-le}
 use borrow.Author.Needs.{needs}
-use Rattle.share_survey.proofs.write_list.Statement.{statement}
-use Rattle.share_survey.proofs.write_list.Tie as tie
+use Rattle.share_list.proofs.write_list.Statement.{statement}
+use Rattle.share_list.proofs.write_list.Tie as tie
 
 array-borrow-prefix-rate : tie.Need-array-borrow-prefix-rate
 array-borrow-prefix-rate c = search needs
