@@ -232,11 +232,16 @@ typed() { printf '1\n1 1\n\004' | full script -qec ./plan "$work/typed"; }
 ends 0 '' typed
 is "a person at a terminal is not told what is wanted" grep -q "reading the duty set from the terminal" "$work/out"
 
+# until_at_work: waits until the stand-in is at work, for five seconds at the most.
+until_at_work() {
+    for _ in $(seq 50); do [ -d "$KIT/at-work" ] || sleep 0.1; done
+}
+
 # three at once: each waits for the one before, and says so
 anew
 export PACE=0.4
 for name in first second; do full ./plan examples/p1 >"$work/$name" 2>&1 & done
-sleep 0.2
+until_at_work
 ends 0 'waiting for it' full sh scripts/native-library tickplume
 wait
 is "two at once disturbed one another" test "$(grep -h -v -e waiting -e 'proving, once' "$work/first" "$work/second")" = "plan 1 1 1
@@ -249,7 +254,7 @@ interrupted() {
     shift
     anew
     PACE=5 PATH=$work/bin:$work/bare env --default-signal=INT setsid "$@" >"$work/out" 2>"$work/err" &
-    for _ in $(seq 50); do [ -d "$KIT/at-work" ] || sleep 0.1; done
+    until_at_work
     is "nothing was at work" test -d "$KIT/at-work"
     is "no temporary folder while it was at work" test "$(rooms)" -eq 1
     kill -s "$signal" -- "-$!"
