@@ -15,7 +15,7 @@
  *   by duty, 4 before 5; and the two calls for plans of shares have the order that stands with them. 255 comes before all others.
  * - A call writes over the front of what was lent to it. Bytes and entries past those written stay.
  * - Threads: no call keeps anything for the next one, so any number may run at once, on buffers that no other call is writing.
- * - Heap: none is used. From outside the library wants memcpy and memset and nothing else.
+ * - Heap: none is used. From outside the library wants memcpy and memset at the most.
  * - Stack: below 7 KiB as measured on Arm, below 8 KiB through part 2; the library's tests fail at 16 KiB.
  * - A call that takes a table and may refuse judges it each time, which is most of its time; it grows with the square of the runs.
  */
