@@ -178,16 +178,19 @@ printf '#!/bin/sh\necho plan 1 1 1\nkill -9 $$\n' >target/bin/plan
 ends 3 'the program could not be run' full ./plan examples/p1
 is "something on standard output" test ! -s "$work/out"
 
-# a read that fails after a part that is well written
+# a read that fails after a part that is well written, whether the program prints once it has all, or what it has by then
 cat >"$work/bin/head" <<HEAD
 #!/bin/sh
-[ "\$1" != -c ] || { printf '2\n2 3\n' && exit 1; }
+[ "\$1" != -c ] || { printf '2\n2 3\n' && sleep 0.2 && exit 1; }
 exec $(type -P head) "\$@"
 HEAD
 chmod +x "$work/bin/head"
-printf '#!/bin/sh\ncat\n' >target/bin/plan
-ends 2 'the input could not be read' full ./plan examples/p1
-is "a plan of a part" test ! -s "$work/out"
+# shellcheck disable=SC2016 # the stand-in's own text
+for program in 'text=$(cat) && echo "$text"' cat; do
+    printf '#!/bin/sh\n%s\n' "$program" >target/bin/plan
+    ends 2 'the input could not be read' full ./plan examples/p1
+    is "a plan of a part" test ! -s "$work/out"
+done
 rm "$work/bin/head"
 
 # the library: quiet, once
