@@ -18,6 +18,13 @@ if [ -n "$bare" ]; then
     failed=1
 fi
 
+# an array's length, however small: [u64; 3], [0; 4]
+lengths=$(grep -nE '; *[0-9]+\]' crates/*/src/*.rt | grep -vE '^[^:]*:[0-9]+: *//')
+if [ -n "$lengths" ]; then
+    printf 'bare array lengths:\n%s\n' "$lengths"
+    failed=1
+fi
+
 # 140 columns, counted in characters
 long=$(LC_ALL=C.UTF-8 grep -nE '^.{141,}$' $(git ls-files 'crates/*.rt' 'crates/*.antt'))
 if [ -n "$long" ]; then
