@@ -185,6 +185,9 @@ cat >"$work/bin/head" <<HEAD
 exec $(type -P head) "\$@"
 HEAD
 chmod +x "$work/bin/head"
+# .. but not where the program ended before it took what was read
+printf '#!/bin/sh\n' >target/bin/plan
+ends 3 'the program printed nothing' full ./plan examples/p1
 # shellcheck disable=SC2016 # the stand-in's own text
 for program in 'text=$(cat) && echo "$text"' cat; do
     printf '#!/bin/sh\n%s\n' "$program" >target/bin/plan
