@@ -1,7 +1,8 @@
 -- The laws of a search. A loop that looks for the least index keeps `Seeking`: everything passed failed the test. At the
--- first index that passes it stands at `first`, and at the end of the range too.
+-- first index that passes it stands at `first`, and at the end of the range too. One that holds each index against the one before it keeps
+-- `Comparing`; where that is enough to find what passes with any earlier index, `first-beside` tells.
 -- Assumes nothing.
-use Prim.Native.Nat.{ℕ, zero, suc, _+_, _≤_, _<_}
+use Prim.Native.Nat.{ℕ, zero, suc, _+_, _-_, _≤_, _<_}
 use mathlib.Core.Path.{_≡_, refl, sym, ap, _∙_}
 use mathlib.Core.Bool.{Bool, true, false}
 use native.Mathlib.Nat.{le-of-suc-le-suc, not-suc-le-zero, le-antisymm}
@@ -99,6 +100,27 @@ first-agree f g (suc n) e =
 pub any-agree : (f g : ℕ → Bool) (n : ℕ) → ((k : ℕ) → k < n → f k ≡ g k) → any f n ≡ any g n
 any-agree f g n e = ap (λ (k : ℕ). ltb k n) (first-agree f g n (λ k h c. e k h))
 
+-- ---- an index and those before it
+
+-- the test of an index with the one before it; 0 has none
+unfoldable pub beside : (ℕ → ℕ → Bool) → ℕ → Bool
+beside test zero = false
+beside test (suc k) = test k (suc k)
+
+-- The least index that passes with some earlier one is the least that passes with the one before it, if no index passes with one further
+-- back as long as none has passed with the one before it. (Index by index the two tests may differ: past the least one.)
+pub first-beside : (test : ℕ → ℕ → Bool) (n : ℕ) → ((j k : ℕ) → j + 1 < k → k < n → Clear (beside test) k → test j k ≡ false)
+    → first (λ k. any (λ j. test j k) k) n ≡ first (beside test) n
+unfolding beside
+first-beside test n none = sym (first-agree (beside test) (λ k. any (λ j. test j k) k) n agree)
+  where
+    agree : (k : ℕ) → k < n → Clear (beside test) k → beside test k ≡ any (λ j. test j k) k
+    agree zero h c = sym (clear-none (λ j. test j 0) 0 (λ j l. absurd (not-suc-le-zero l)))
+    agree (suc k) h c =
+        by-cases (test k (suc k)) (λ p. p ∙ sym (any-some (λ j. test j (suc k)) (suc k) k (omega arith) p))
+        (λ p. p ∙ sym (clear-none (λ j. test j (suc k)) (suc k)
+        (λ j l. below-more _ k (λ i m. none i (suc k) (omega arith) h c) p j (omega arith))))
+
 -- ---- a loop that searches
 
 pub record Seeking (test : ℕ → Bool) (n i : ℕ) : Type 0 where
@@ -124,3 +146,32 @@ seek-any {test} {n} {i} s h p = any-some test n i h p
 
 pub seek-not-any : {test : ℕ → Bool} {n i : ℕ} → Seeking test n i → n ≤ i → any test n ≡ false
 seek-not-any {test} {n} {i} s h = le-ltb (first test n) n (omega (arith, seek-miss s h))
+
+-- ---- a loop that looks at each index with the one before it, from 1 on
+
+pub record Comparing (test : ℕ → ℕ → Bool) (k : ℕ) : Type 0 where
+  pub after-first : 1 ≤ k
+  pub clear : Clear (beside test) k
+
+beside-after : (test : ℕ → ℕ → Bool) (k : ℕ) → 1 ≤ k → beside test k ≡ test (k - 1) k
+unfolding beside
+beside-after test zero h = absurd (not-suc-le-zero h)
+beside-after test (suc k) h = let e : suc k - 1 ≡ k = omega arith in rw e
+
+pub compare-none : (test : ℕ → ℕ → Bool) → Comparing test 1
+unfolding beside
+compare-none test = record { after-first = omega arith; clear = one }
+  where
+    one : Clear (beside test) 1
+    one zero h = refl
+    one (suc k) h = absurd (not-suc-le-zero (le-of-suc-le-suc h))
+
+pub compare-more : {test : ℕ → ℕ → Bool} {k : ℕ} → Comparing test k → test (k - 1) k ≡ false → Comparing test (k + 1)
+compare-more {test} {k} c p =
+    record { after-first = omega arith; clear = below-more _ k (c .clear) (beside-after test k (c .after-first) ∙ p) }
+
+pub compare-hit : {test : ℕ → ℕ → Bool} {n k : ℕ} → Comparing test k → k < n → test (k - 1) k ≡ true → k ≡ first (beside test) n
+compare-hit {test} {n} {k} c h p = sym (first-is (beside test) n k h (c .clear) (beside-after test k (c .after-first) ∙ p))
+
+pub compare-miss : {test : ℕ → ℕ → Bool} {n k : ℕ} → Comparing test k → n ≤ k → n ≡ first (beside test) n
+compare-miss {test} {n} {k} c h = sym (first-none (beside test) n (λ j l. c .clear j (omega arith)))
