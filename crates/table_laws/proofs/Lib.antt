@@ -1,6 +1,7 @@
--- Tables: the rules as plain statements and as tests, a slice that is whole, what is accepted; and a table's bytes, their fields, what
--- reading them comes to, what is written, what is read, and which bytes are accepted.
+-- Tables: the rules as plain statements and as tests, rule 14 by the forerunner, what is accepted, a slice that is whole; and a table's
+-- bytes, their fields, what reading them comes to, what is written, what is read, and which bytes are accepted.
 pub mod Rules
+pub mod Forerunners
 pub mod Accepted
 pub mod Whole
 pub mod Bytes
