@@ -1,2 +1,1 @@
 mod Periods
-mod Forerunners

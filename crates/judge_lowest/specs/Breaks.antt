@@ -1,4 +1,4 @@
--- What makes a run break rules 14 to 16, and a duty rule 17.
+-- What makes a run break rules 15 and 16, and a duty rule 17.
 use Prim.Native.Nat.{ℕ}
 use mathlib.Core.Bool.{Bool, not}
 use mathlib.Core.List.{List}
@@ -11,7 +11,7 @@ use Rattle.paper.specs.Rules.{unitsOf}
 use Rattle.judge_pairs.specs.declared.Clash.{Clash}
 use Rattle.judge_pairs.specs.Clash.{clashOf}
 
--- 14, 15 and 16: run k clashes so with an earlier one
+-- 15 and 16: run k clashes so with an earlier one
 abbrev pub clashed : Clash → List Run → ℕ → Bool
 clashed kind xs k = any (λ j. clashOf kind (runAt xs j) (runAt xs k)) k
 

@@ -1,18 +1,17 @@
-// Of each rule the lowest duty or run of a table's bytes in good form that breaks it: 12, a slice that is not whole; 13, a run that is
-// not after its forerunner; 14, 15 and 16, a run that clashes with an earlier one; 17, runs that do not add up to the slice. Rule 11
-// has no place: here is the block length that it asks for.
+// Of each rule that looks further than at a run's forerunner, the lowest duty or run of a table's bytes in good form that breaks it: 12, a
+// slice that is not whole; 15 and 16, a run that clashes with an earlier one; 17, runs that do not add up to the slice. Rule 11 has no
+// place: here is the block length that it asks for.
 ghost use mathlib.Core.Path.{_≡_};
 ghost use Prim.Native.Nat.{_<_};
 ghost use Rattle.paper.specs.Words.{blockLengthOf};
 ghost use Rattle.paper.specs.Builder.{badSlice};
-ghost use Rattle.paper.specs.Rules.{unordered, badOrder, lowest, badSum};
+ghost use Rattle.paper.specs.Rules.{lowest, badSum};
 ghost use Rattle.record_read.specs.Formed.{Formed, tableOf};
 ghost use Rattle.table_tally.specs.Tally.{unitsIn};
 ghost use Rattle.judge_pairs.specs.Clash.{clashOf};
 ghost use Rattle.judge_lowest.specs.Breaks.{clashed, wrongSum};
 use judge_pairs::Clash;
 use judge_pairs::do_clash;
-use judge_pairs::is_before;
 use paper::Reading;
 use paper::limits::MOST_DUTIES;
 use record_read::duty_of;
@@ -51,34 +50,6 @@ pub fn bad_slice(b: &[u8], rd: Reading) -> usize
         d += 1;
     }
     d
-}
-
-// Whether run k is not after its forerunner; run 0 has none.
-fn is_unordered(b: &[u8], rd: Reading, k: usize) -> bool
-    requires { ⌜ Formed (now b) rd ⌝ }
-    requires { ⌜ k < rd .runs ⌝ }
-    ensures { λ r. ⌜ r ≡ unordered (tableOf (now (b .entry)) rd .runs) k ⌝ }
-{
-    if k == 0 {
-        return false;
-    }
-    !is_before(run_of(b, rd, k - 1), run_of(b, rd, k))
-}
-
-// The lowest run that is not after its forerunner, or how many runs there are.
-pub fn bad_order(b: &[u8], rd: Reading) -> usize
-    requires { ⌜ Formed (now b) rd ⌝ }
-    ensures { λ r. ⌜ r ≡ badOrder (tableOf (now (b .entry)) rd) ⌝ }
-{
-    let n = rd.runs as usize;
-    let mut k = 0;
-    while k < n {
-        if is_unordered(b, rd, k) {
-            return k;
-        }
-        k += 1;
-    }
-    k
 }
 
 // Whether run k clashes so with an earlier one.

@@ -4,7 +4,8 @@ ghost use Rattle.paper.specs.Outcome.{answer, andThen, judgedAs};
 ghost use Rattle.paper.specs.Rules.{judgeRuns, readingOf};
 ghost use Rattle.record_read.specs.Formed.{Formed, tableOf};
 ghost use Rattle.table_tally.specs.Tally.{unitsIn};
-use judge_lowest::bad_order;
+use judge_forerunners::bad_order;
+use judge_forerunners::lowest_overlap;
 use judge_lowest::bad_sum;
 use judge_lowest::lowest_clash;
 use judge_pairs::Clash;
@@ -24,7 +25,7 @@ pub fn judge_runs(b: &[u8], rd: Reading, units: &[u32; MOST_DUTIES]) -> Judged
     if unordered < runs {
         return Judged::Bad(Fault::Order(unordered));
     }
-    let overlapping = lowest_clash(b, rd, Clash::Overlap);
+    let overlapping = lowest_overlap(b, rd);
     if overlapping < runs {
         return Judged::Bad(Fault::Overlap(overlapping));
     }

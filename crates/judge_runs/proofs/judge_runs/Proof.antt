@@ -56,53 +56,53 @@ ordered : (c : tie.Else1) → Left from14 (c .before .before .before .before)
 unfolding judgeRuns
 ordered c = found-none 13 _ (c .before .bad-order .ensures) (runs (c .before .before .before .before)) (omega arith)
 
-lowest-clash-requires : tie.Need-lowest-clash-requires
-lowest-clash-requires c κs =
+lowest-overlap-requires : tie.Need-lowest-overlap-requires
+lowest-overlap-requires c κs =
     let start = c .before .before .before .before in
-    start .pre .0
+    (start .pre .0, omega (arith, c .before .bad-order .ensures))
 
 returns-2 : tie.Need-returns-2
 returns-2 c =
     let s = c .before .before .before .before .before .before in
-    refuses (ordered (c .before .before) ∙ found-one 14 _ (c .before .lowest-clash .ensures) (runs s) (omega arith))
+    refuses (ordered (c .before .before) ∙ found-one 14 _ (c .before .lowest-overlap .ensures) (runs s) (omega arith))
 
 -- no two runs of a row share a unit
 apart : (c : tie.Else2) → Left from15 (c .before .before .before .before .before .before)
 apart c =
     let s = c .before .before .before .before .before .before in
-    ordered (c .before .before) ∙ found-none 14 _ (c .before .lowest-clash .ensures) (runs s) (omega arith)
+    ordered (c .before .before) ∙ found-none 14 _ (c .before .lowest-overlap .ensures) (runs s) (omega arith)
 
-lowest-clash-requires-2 : tie.Need-lowest-clash-requires-2
-lowest-clash-requires-2 c κs =
+lowest-clash-requires : tie.Need-lowest-clash-requires
+lowest-clash-requires c κs =
     let start = c .before .before .before .before .before .before in
     start .pre .0
 
 returns-3 : tie.Need-returns-3
 returns-3 c =
     let s = c .before .before .before .before .before .before .before .before in
-    refuses (apart (c .before .before) ∙ found-one 15 _ (c .before .lowest-clash2 .ensures) (runs s) (omega arith))
+    refuses (apart (c .before .before) ∙ found-one 15 _ (c .before .lowest-clash .ensures) (runs s) (omega arith))
 
 -- no run goes on where one of its row and duty stops
 unjoined : (c : tie.Else3) → Left from16 (c .before .before .before .before .before .before .before .before)
 unjoined c =
     let s = c .before .before .before .before .before .before .before .before in
-    apart (c .before .before) ∙ found-none 15 _ (c .before .lowest-clash2 .ensures) (runs s) (omega arith)
+    apart (c .before .before) ∙ found-none 15 _ (c .before .lowest-clash .ensures) (runs s) (omega arith)
 
-lowest-clash-requires-3 : tie.Need-lowest-clash-requires-3
-lowest-clash-requires-3 c κs =
+lowest-clash-requires-2 : tie.Need-lowest-clash-requires-2
+lowest-clash-requires-2 c κs =
     let start = c .before .before .before .before .before .before .before .before in
     start .pre .0
 
 returns-4 : tie.Need-returns-4
 returns-4 c =
     let s = c .before .before .before .before .before .before .before .before .before .before in
-    refuses (unjoined (c .before .before) ∙ found-one 16 _ (c .before .lowest-clash3 .ensures) (runs s) (omega arith))
+    refuses (unjoined (c .before .before) ∙ found-one 16 _ (c .before .lowest-clash2 .ensures) (runs s) (omega arith))
 
 -- no duty has two rows at a time
 single : (c : tie.Else4) → Left from17 (c .before .before .before .before .before .before .before .before .before .before)
 single c =
     let s = c .before .before .before .before .before .before .before .before .before .before in
-    unjoined (c .before .before) ∙ found-none 16 _ (c .before .lowest-clash3 .ensures) (runs s) (omega arith)
+    unjoined (c .before .before) ∙ found-none 16 _ (c .before .lowest-clash2 .ensures) (runs s) (omega arith)
 
 bad-sum-requires : tie.Need-bad-sum-requires
 bad-sum-requires c κs =
@@ -132,11 +132,11 @@ judge-runs-spec =
     cast-runs
     bad-order-requires
     returns
-    lowest-clash-requires
+    lowest-overlap-requires
     returns-2
-    lowest-clash-requires-2
+    lowest-clash-requires
     returns-3
-    lowest-clash-requires-3
+    lowest-clash-requires-2
     returns-4
     bad-sum-requires
     cast-if5
