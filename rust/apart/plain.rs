@@ -129,8 +129,20 @@ fn word(b: &[u8]) -> u32 {
     u32::from_le_bytes([b[0], b[1], b[2], b[3]])
 }
 
-/// Reads and judges any bytes, rule by rule.
+/// Reads and judges any bytes, rule by rule. Of 14 each run is held against the one before it, which is enough where
+/// the runs are in order.
 pub fn judge(b: &[u8]) -> Result<Plan, Refused> {
+    judge_by(b, |runs| (1..runs.len()).find(|&k| runs[k - 1].row == runs[k].row && runs[k].first < runs[k - 1].stop()))
+}
+
+/// The same with 14 as it is said: each run is held against every earlier one.
+pub fn judge_pairwise(b: &[u8]) -> Result<Plan, Refused> {
+    judge_by(b, |runs| (0..runs.len()).find(|&k| runs[..k].iter().any(|x| x.row == runs[k].row && x.meets(&runs[k]))))
+}
+
+/// Reads and judges any bytes, with a way to find the lowest run that shares a unit with an earlier one of its row.
+#[inline(always)]
+fn judge_by(b: &[u8], lowest_overlap: impl Fn(&[Run]) -> Option<usize>) -> Result<Plan, Refused> {
     let form = |at: usize| Err((10, at as u64));
     if b.len() < 7 || b[0] != 1 {
         return form(0);
@@ -188,10 +200,8 @@ pub fn judge(b: &[u8]) -> Result<Plan, Refused> {
             return Err((13, k as u64));
         }
     }
-    for (k, y) in runs.iter().enumerate() {
-        if runs[..k].iter().any(|x| x.row == y.row && x.meets(y)) {
-            return Err((14, k as u64));
-        }
+    if let Some(k) = lowest_overlap(runs) {
+        return Err((14, k as u64));
     }
     for (k, y) in runs.iter().enumerate() {
         if runs[..k].iter().any(|x| x.row == y.row && x.duty == y.duty && x.stop() == y.first) {

@@ -232,6 +232,42 @@ pub fn odd_share_set(random: &mut Random) -> Set {
     made_odd(random, set)
 }
 
+/// A table with nothing wrong up to 13: its runs stand in order, and are drawn at random otherwise. Most start where the
+/// one before stops or later, some sooner; a long one may have many behind it that lie in it.
+pub fn ordered_table(random: &mut Random) -> Vec<u8> {
+    let ticks = random.between(2, 60) as u32;
+    let (engines, duties) = (random.between(1, 6) as u8, random.between(1, 8) as u8);
+    let often = random.between(2, 40);
+    let mut b = vec![1];
+    b.extend_from_slice(&ticks.to_le_bytes());
+    b.extend_from_slice(&[engines, duties]);
+    for _ in 0..duties {
+        b.push(2);
+        b.extend_from_slice(&(random.between(1, ticks as u64) as u32).to_le_bytes());
+        b.extend_from_slice(&ticks.to_le_bytes());
+    }
+    let mut runs = 0u16;
+    for row in 0..engines {
+        let mut first = random.below(4) as u32;
+        while first < ticks && runs < 128 {
+            let most = if random.once_in(6) { ticks - first } else { 4.min(ticks - first) };
+            let length = random.between(1, most as u64) as u32;
+            b.extend_from_slice(&[3, row, one_of(random, duties)]);
+            b.extend_from_slice(&first.to_le_bytes());
+            b.extend_from_slice(&length.to_le_bytes());
+            runs += 1;
+            first += if random.once_in(often) {
+                random.between(1, length as u64) as u32
+            } else {
+                length + random.below(3) as u32
+            };
+        }
+    }
+    b.push(4);
+    b.extend_from_slice(&runs.to_le_bytes());
+    b
+}
+
 /// Changes bytes of a table: fields of a record set to other values, records swapped or doubled, cuts and additions.
 /// It takes any bytes, since each change works on what the one before has left. Where there are none it leaves none.
 pub fn patch(random: &mut Random, table: &[u8]) -> Vec<u8> {

@@ -188,6 +188,21 @@ fn table_of(runs: usize) -> Vec<u8> {
     b
 }
 
+/// The judging of a table of so many runs by the library and in Rust, which tells how many runs it read.
+fn judged(name: &str, runs: usize, theirs: impl Fn(&[u8]) -> Result<u32, plain::Refused>) {
+    let table = table_of(runs);
+    beside(
+        name,
+        100_000 / runs / runs.min(40),
+        || {
+            let _ = black_box(calls::judge(black_box(&table)));
+        },
+        || {
+            let _ = black_box(theirs(black_box(&table)));
+        },
+    );
+}
+
 fn main() {
     println!("| call | library, ns | plain Rust, ns | ratio | middle half |");
     println!("|---|---|---|---|---|");
@@ -222,18 +237,8 @@ fn main() {
         );
     }
     for runs in [8, 16, 32, 64, 128] {
-        let table = table_of(runs);
-        let times = 100_000 / runs / runs.min(40);
-        beside(
-            &format!("judge, {runs} runs"),
-            times,
-            || {
-                let _ = black_box(calls::judge(black_box(&table)));
-            },
-            || {
-                let _ = black_box(plain::judge(black_box(&table)).map(|p| p.runs));
-            },
-        );
+        judged(&format!("judge, {runs} runs"), runs, |b| plain::judge(b).map(|p| p.runs));
+        judged(&format!("judge, {runs} runs, beside 14 pairwise"), runs, |b| plain::judge_pairwise(b).map(|p| p.runs));
     }
     for runs in [8, 64, 128] {
         let table = table_of(runs);

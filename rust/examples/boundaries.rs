@@ -180,6 +180,18 @@ fn faults() {
     }
 }
 
+/// 14 where two runs only touch, and where runs lie in one that is not the run before them.
+fn rows() {
+    changed("a run that starts where its forerunner stops", |h| h.runs[1] = (0, 1, 4, 2));
+    changed("a run that starts one unit sooner", |h| h.runs[1] = (0, 1, 3, 2));
+    changed("two runs inside one, apart from each other", |h| {
+        h.runs = vec![(0, 0, 0, 6), (0, 1, 1, 1), (0, 2, 3, 1)];
+    });
+    changed("the same behind two runs that only touch", |h| {
+        h.runs = vec![(0, 0, 0, 1), (0, 1, 1, 1), (1, 0, 0, 6), (1, 1, 1, 1), (1, 2, 3, 1)];
+    });
+}
+
 fn asked() {
     let table = Hand::good().bytes();
     for engine in [0, 1, 2, 255, 256, u32::MAX] {
@@ -206,5 +218,6 @@ fn main() {
     builds();
     forms();
     faults();
+    rows();
     asked();
 }

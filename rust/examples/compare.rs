@@ -250,6 +250,7 @@ fn part(seed: u64, sets: u64, apart: Apart) -> Result<Seen, String> {
     let mut seen = Seen::default();
     let mut random = Random::new(seed);
     let mut other = Random::new(seed + 1_000);
+    let mut ordered = Random::new(seed + 2_000);
     for set in sets::refused_sets() {
         shares_compared::compare(&mut seen.shares, &mut other, &set, apart.steps)?;
     }
@@ -261,6 +262,8 @@ fn part(seed: u64, sets: u64, apart: Apart) -> Result<Seen, String> {
             _ => sets::odd_set(&mut random),
         };
         compare_set(&mut seen, &mut random, &set, apart.turn)?;
+        let table = sets::ordered_table(&mut ordered);
+        compare_table(&mut seen, &mut ordered, &table, apart.turn)?;
         let set = shares_compared::draw(&mut other, k);
         shares_compared::compare(&mut seen.shares, &mut other, &set, apart.steps)?;
     }

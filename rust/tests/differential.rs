@@ -57,7 +57,7 @@ impl Comparison {
         }
     }
 
-    /// One set, its table and patches of it if it has one, and some bytes drawn at random.
+    /// One set, its table and patches of it if it has one, a table of runs in order, and some bytes drawn at random.
     fn round(&mut self, random: &mut Random) {
         if let Some(table) = self.build(random) {
             self.table(random, &table);
@@ -66,6 +66,8 @@ impl Comparison {
                 self.table(random, &patched);
             }
         }
+        let ordered = sets::ordered_table(random);
+        self.table(random, &ordered);
         let noise: Vec<u8> = (0..random.below(60)).map(|_| random.below(5) as u8).collect();
         self.table(random, &noise);
         let set = share_set(random);
@@ -118,8 +120,10 @@ impl Comparison {
 
     fn table(&mut self, random: &mut Random, table: &[u8]) {
         let ours = calls::judge(table).map(|r| (r.block_length, r.engines, r.duties, r.runs)).map_err(pair);
-        let theirs = plain::judge(table).map(|p| (p.block_length, p.engines, p.duties, p.runs));
-        self.same("judge", ours, theirs, &table);
+        for plainly in [plain::judge, plain::judge_pairwise] {
+            let theirs = plainly(table).map(|p| (p.block_length, p.engines, p.duties, p.runs));
+            self.same("judge", ours, theirs, &table);
+        }
         let asked = if ours.is_ok() { 6 } else { 1 };
         self.accepted += ours.is_ok() as u64;
         for _ in 0..asked {
