@@ -1,5 +1,6 @@
 //! The second program: compares the proved library with planners written apart that fill blocks tick by tick, on many
-//! sets and patched tables, and on as many sets for plans of shares.
+//! sets and patched tables, on as many tables whose runs are in order but lie in one another, and on as many sets for
+//! plans of shares.
 //!
 //!     cargo run --release --example compare -- [SETS] [--plant ERROR]
 //!

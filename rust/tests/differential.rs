@@ -1,6 +1,7 @@
 //! The library beside an independent implementation in plain Rust: random duty sets, valid, faulty and at the edges of
-//! every range; tables built, patched, cut, extended and bit-flipped; questions near tick 0, anywhere and near 2^64;
-//! dispatcher states valid, stale and made up; counts up to 10^12; plans of shares, and questions about them.
+//! every range; tables built, patched, cut, extended and bit-flipped, and tables whose runs are in order but lie in one
+//! another; questions near tick 0, anywhere and near 2^64; dispatcher states valid, stale and made up; counts up to
+//! 10^12; plans of shares, and questions about them.
 //!
 //! TICKPLUME_COMPARISONS sets how many comparisons are made at the least, in all (200,000 by default). The seeds 1 to 8
 //! have equal shares of them, or TICKPLUME_SEED, any 64-bit number, has them all. Above 1,000,000 the progress is
