@@ -1,4 +1,5 @@
--- By cases; searches, sums and divisors; lists, and texts laid over a buffer; bytes and fields; tests that decide a condition.
+-- By cases; searches, sums and divisors; lists, texts laid over a buffer, sorted lists in one array; bytes and fields; tests that decide a
+-- condition.
 pub mod Cases
 pub mod Search
 pub mod Sum
@@ -8,6 +9,7 @@ pub mod Lists
 pub mod Writing
 pub mod TwoPlaces
 pub mod Listing
+pub mod SortedLists
 pub mod Turned
 pub mod Fields
 pub mod Each

@@ -129,12 +129,16 @@ same-list-not xs ys n = refuted (same-list xs ys) (λ p. n (same-list-eq xs ys p
 pub same-list-differ : (xs ys : List ℕ) (k : ℕ) → (getD xs k 0 ≡ getD ys k 0 → ⊥) → same-list xs ys ≡ false
 same-list-differ xs ys k h = same-list-not xs ys (λ e. h (ap (λ (l : List ℕ). getD l k 0) e))
 
--- what stands at k after a store at i: what was stored, or what stood there
+-- what holds of an entry after a store: of what was stored, or of what stood there
+pub set-has : {A : Type 0} (P : A → Type 0) (d : A) (l : List A) (i : ℕ) (v : A) (k : ℕ) → i < length l → (k ≡ i → P v)
+    → ((k ≡ i → ⊥) → P (getD l k d)) → P (getD (set l i v) k d)
+set-has P d l i v k h same other =
+    by-cases (eqb k i) (λ q. let e = eqb-true k i q in rw (e, getD-set-same l i v d h) (same e))
+    (λ q. let n = eqb-false k i q in rw (getD-set-other l i k v d n) (other n))
+
 getD-set : {A : Type 0} (d : A) (l : List A) (i : ℕ) (v : A) (k : ℕ) (x : A) → i < length l → (k ≡ i → v ≡ x)
     → ((k ≡ i → ⊥) → getD l k d ≡ x) → getD (set l i v) k d ≡ x
-getD-set d l i v k x h same other =
-    by-cases (eqb k i) (λ q. let e = eqb-true k i q in rw e (getD-set-same l i v d h ∙ same e))
-    (λ q. let n = eqb-false k i q in getD-set-other l i k v d n ∙ other n)
+getD-set d l i v k x h same other = set-has (λ y. y ≡ x) d l i v k h same other
 
 -- ---- an array that a loop takes from one table to another, entry after entry: f below i, g from there on
 

@@ -11,7 +11,7 @@ use lib.Dec.{ltb}
 use borrow.Author.Tests.{ltb-false, le-ltb}
 use borrow.Author.Count.{below-more}
 use Rattle.laws.specs.Search.{first, any}
-use Rattle.laws.proofs.Cases.{by-cases, not-both}
+use Rattle.laws.proofs.Cases.{by-cases, lt-or-le, not-both}
 
 -- no index below n passes
 abbrev pub Clear : (ℕ → Bool) → ℕ → Type 0
@@ -121,6 +121,12 @@ first-beside test n none = sym (first-agree (beside test) (λ k. any (λ j. test
         (λ p. p ∙ sym (clear-none (λ j. test j (suc k)) (suc k)
         (λ j l. below-more _ k (λ i m. none i (suc k) (omega arith) h c) p j (omega arith))))
 
+-- a test that fails wherever another does has no neighbours that pass where that one has none
+pub beside-fails : (f g : ℕ → ℕ → Bool) (n : ℕ) → ((j k : ℕ) → g j k ≡ false → f j k ≡ false) → Clear (beside g) n → Clear (beside f) n
+unfolding beside
+beside-fails f g n less c zero h = refl
+beside-fails f g n less c (suc k) h = less k (suc k) (c (suc k) h)
+
 -- ---- a loop that searches
 
 pub record Seeking (test : ℕ → Bool) (n i : ℕ) : Type 0 where
@@ -165,6 +171,20 @@ compare-none test = record { after-first = omega arith; clear = one }
     one : Clear (beside test) 1
     one zero h = refl
     one (suc k) h = absurd (not-suc-le-zero (le-of-suc-le-suc h))
+
+-- none before the least index that passes, which is not 0
+pub compare-found : (test : ℕ → ℕ → Bool) (n : ℕ) → first (beside test) n < n → Comparing test (first (beside test) n)
+unfolding beside
+compare-found test n h =
+    record {
+      after-first = lt-or-le 0 (first (beside test) n) (λ l. l)
+          (λ l. let e : first (beside test) n ≡ 0 = omega arith in not-both (first-holds (beside test) n h) (ap (beside test) e));
+      clear = first-clear (beside test) n;
+    }
+
+-- and so it is for a test that fails wherever that one does
+pub compare-less : (f g : ℕ → ℕ → Bool) {k : ℕ} → ((i j : ℕ) → g i j ≡ false → f i j ≡ false) → Comparing g k → Comparing f k
+compare-less f g {k} less c = record { after-first = c .after-first; clear = beside-fails f g k less (c .clear) }
 
 pub compare-more : {test : ℕ → ℕ → Bool} {k : ℕ} → Comparing test k → test (k - 1) k ≡ false → Comparing test (k + 1)
 compare-more {test} {k} c p =
