@@ -1,19 +1,23 @@
 // The judge of tables: the form of the bytes, then the rules. One pass over the runs serves the judge and those who ask on.
 ghost use mathlib.Core.Path.{_≡_};
+ghost use Prim.Native.Nat.{_≤_};
 ghost use Rattle.paper.specs.Outcome.{answer, andThen, judgedAs, refusalOf};
-ghost use Rattle.paper.specs.Rules.{judged, judgeDuties, judgeRuns, readingOf};
+ghost use Rattle.paper.specs.Rules.{overlaps, lowest, judged, judgeDuties, readingOf};
 ghost use Rattle.record_read.specs.Formed.{Formed, tableOf};
 ghost use Rattle.table_tally.specs.Tally.{noEdges, edgesOf};
-ghost use Rattle.judge.specs.Ruled.{Ruled};
+ghost use Rattle.judge_runs.specs.Halves.{judgeService};
+ghost use Rattle.judge.specs.Ruled.{RunsRuled, Ruled};
 use judge_lowest::bad_slice;
 use judge_lowest::block_length_of;
-use judge_runs::judge_runs;
+use judge_runs::judge_rows;
+use judge_runs::judge_service;
 use paper::Fault;
 use paper::Judged;
 use paper::Reading;
 use paper::Refusal;
 use paper::limits::EDGES;
 use paper::limits::MOST_DUTIES;
+use paper::limits::POINTERS;
 use table_form::Form;
 use table_form::form_of;
 use table_tally::tally;
@@ -33,15 +37,29 @@ fn judge_duties(b: &[u8], rd: Reading) -> Judged
     Judged::Accepted(rd)
 }
 
-// The rules of the runs; the tally leaves the edges of the rows.
-fn rule_on_runs(b: &[u8], rd: Reading, edges: &mut [u32; EDGES]) -> Judged
-    requires { ⌜ Formed (now b) rd × (now edges ≡ noEdges) ⌝ }
-    ensures { λ r. ⌜ judgedAs r ≡ andThen (judgeRuns (tableOf (now (b .entry)) rd)) (λ t. answer (readingOf t)) ⌝ }
+// Rules 16 and 17, where 14 is met, with the lists that they need; the tally leaves the edges of the rows.
+fn rule_on_service(b: &[u8], rd: Reading, edges: &mut [u32; EDGES]) -> Judged
+    requires { ⌜ Formed (now b) rd × (now edges ≡ noEdges) × (rd .runs ≤ lowest overlaps (tableOf (now b) rd .runs)) ⌝ }
+    ensures { λ r. ⌜ judgedAs r ≡ andThen (judgeService (tableOf (now (b .entry)) rd)) (λ t. answer (readingOf t)) ⌝ }
     ensures { λ r. ⌜ now (edges .exit) ≡ edgesOf (tableOf (now (b .entry)) rd) ⌝ }
 {
     let mut units = [0u32; MOST_DUTIES];
+    let mut last = [0u16; MOST_DUTIES];
+    let mut pointers = [0u16; POINTERS];
     tally(b, rd, &mut units, edges);
-    judge_runs(b, rd, &units)
+    judge_service(b, rd, &units, &mut last, &mut pointers)
+}
+
+// The rules of the runs: first those of the rows, which need no list.
+fn rule_on_runs(b: &[u8], rd: Reading, edges: &mut [u32; EDGES]) -> Judged
+    requires { ⌜ Formed (now b) rd × (now edges ≡ noEdges) ⌝ }
+    ensures { λ r. ⌜ RunsRuled (tableOf (now (b .entry)) rd) r (now (edges .exit)) ⌝ }
+{
+    let rows = judge_rows(b, rd);
+    match rows {
+        Judged::Bad(fault) => Judged::Bad(fault),
+        Judged::Accepted(_) => rule_on_service(b, rd, edges),
+    }
 }
 
 // The rules' answer to bytes in good form: first those of the duties, which look at no run, then those of the runs.

@@ -1,21 +1,16 @@
-// Of each rule that looks further than at a run's forerunner, the lowest duty or run of a table's bytes in good form that breaks it: 12, a
-// slice that is not whole; 15 and 16, a run that clashes with an earlier one; 17, runs that do not add up to the slice. Rule 11 has no
-// place: here is the block length that it asks for.
+// Of the rules that are said of a duty, the lowest duty of a table's bytes in good form that breaks it: 12, a slice that is not whole; 17,
+// runs that do not add up to the slice. Rule 11 has no place: here is the block length that it asks for.
 ghost use mathlib.Core.Path.{_≡_};
 ghost use Prim.Native.Nat.{_<_};
 ghost use Rattle.paper.specs.Words.{blockLengthOf};
 ghost use Rattle.paper.specs.Builder.{badSlice};
-ghost use Rattle.paper.specs.Rules.{lowest, badSum};
+ghost use Rattle.paper.specs.Rules.{badSum};
 ghost use Rattle.record_read.specs.Formed.{Formed, tableOf};
 ghost use Rattle.table_tally.specs.Tally.{unitsIn};
-ghost use Rattle.judge_pairs.specs.Clash.{clashOf};
-ghost use Rattle.judge_lowest.specs.Breaks.{clashed, wrongSum};
-use judge_pairs::Clash;
-use judge_pairs::do_clash;
+ghost use Rattle.judge_lowest.specs.Breaks.{wrongSum};
 use paper::Reading;
 use paper::limits::MOST_DUTIES;
 use record_read::duty_of;
-use record_read::run_of;
 use slices::gcd_of;
 use slices::is_whole;
 use slices::slice_of;
@@ -50,39 +45,6 @@ pub fn bad_slice(b: &[u8], rd: Reading) -> usize
         d += 1;
     }
     d
-}
-
-// Whether run k clashes so with an earlier one.
-fn clashes(b: &[u8], rd: Reading, kind: Clash, k: usize) -> bool
-    requires { ⌜ Formed (now b) rd ⌝ }
-    requires { ⌜ k < rd .runs ⌝ }
-    ensures { λ r. ⌜ r ≡ clashed kind (tableOf (now (b .entry)) rd .runs) k ⌝ }
-{
-    let y = run_of(b, rd, k);
-    let mut j = 0;
-    while j < k {
-        if do_clash(kind, run_of(b, rd, j), y) {
-            return true;
-        }
-        j += 1;
-    }
-    false
-}
-
-// The lowest run that clashes so with an earlier one, or how many runs there are.
-pub fn lowest_clash(b: &[u8], rd: Reading, kind: Clash) -> usize
-    requires { ⌜ Formed (now b) rd ⌝ }
-    ensures { λ r. ⌜ r ≡ lowest (clashOf kind) (tableOf (now (b .entry)) rd .runs) ⌝ }
-{
-    let n = rd.runs as usize;
-    let mut k = 0;
-    while k < n {
-        if clashes(b, rd, kind, k) {
-            return k;
-        }
-        k += 1;
-    }
-    k
 }
 
 // Whether the runs of duty i do not add up to its slice, by the units of each duty.

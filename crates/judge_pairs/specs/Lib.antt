@@ -1,1 +1,1 @@
-pub mod Clash
+pub mod Amiss

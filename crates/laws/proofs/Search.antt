@@ -146,13 +146,6 @@ pub seek-miss : {test : ℕ → Bool} {n i : ℕ} → Seeking test n i → n ≤
 seek-miss {test} {n} {i} s h =
     let e : i ≡ n = le-antisymm (s .within) h in e ∙ sym (first-none test n (rw e at (s .clear)))
 
--- the same where the loop answers whether there is one
-pub seek-any : {test : ℕ → Bool} {n i : ℕ} → Seeking test n i → i < n → test i ≡ true → any test n ≡ true
-seek-any {test} {n} {i} s h p = any-some test n i h p
-
-pub seek-not-any : {test : ℕ → Bool} {n i : ℕ} → Seeking test n i → n ≤ i → any test n ≡ false
-seek-not-any {test} {n} {i} s h = le-ltb (first test n) n (omega (arith, seek-miss s h))
-
 -- ---- a loop that looks at each index with the one before it, from 1 on
 
 pub record Comparing (test : ℕ → ℕ → Bool) (k : ℕ) : Type 0 where

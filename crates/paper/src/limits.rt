@@ -46,6 +46,9 @@ pub const MOST_TABLE: usize = HEAD_LENGTH
 // The edges of all rows and of one row past them, two of each.
 pub const EDGES: usize = 2 * MOST_ENGINES + 2;
 
+// The pointers of all runs, and the fronts of all duties' lists.
+pub const POINTERS: usize = MOST_RUNS + MOST_DUTIES;
+
 // Blocks of a count, blocks of a plan of shares, and the last block that there is.
 pub const MOST_BLOCKS: u64 = 1000000000000;
 

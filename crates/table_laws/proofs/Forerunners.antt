@@ -47,7 +47,7 @@ pub found-ordered : (t : Table) → length (t .runs) ≤ badOrder t → InOrder 
 found-ordered t h = ordered-clear (t .runs) (λ k l. first-clear (unordered (t .runs)) (length (t .runs)) k (omega arith))
 
 -- two runs in order share a unit of a row exactly where the second starts on it before the first stops
-pub overlaps-ordered : (x y : Run) → before x y ≡ true → overlaps x y ≡ (eqb (x .row .0) (y .row .0) && ltb (y .first) (stop x))
+overlaps-ordered : (x y : Run) → before x y ≡ true → overlaps x y ≡ (eqb (x .row .0) (y .row .0) && ltb (y .first) (stop x))
 unfolding overlaps meet
 overlaps-ordered x y h =
     by-cases (eqb (x .row .0) (y .row .0))

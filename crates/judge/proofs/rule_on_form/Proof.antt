@@ -22,7 +22,7 @@ returns-2 c =
     let start = c .before .before .before .before .before .before in
     let judge-duties = c .before .before .before .before .judge-duties in
     let met = sym (judge-duties .ensures) ∙ ap judgedAs (c .before .before .enum-told .given .1) in
-    let told = c .rule-on-runs .ensures .0 ∙ sym (runs-decide (start .pre .0) met) in
+    let told = c .rule-on-runs .ensures .told ∙ sym (runs-decide (start .pre .0) met) in
     record {
       told = told;
       ready = λ rd q.
@@ -30,7 +30,7 @@ returns-2 c =
           record {
             formed = good .0;
             meets = good .1;
-            edges-are = c .rule-on-runs .ensures .1 ∙ ap edgesOf (table-one _ (start .args .rd) rd (start .pre .0) (good .0));
+            edges-are = c .rule-on-runs .ensures .edged rd q ∙ ap edgesOf (table-one _ (start .args .rd) rd (start .pre .0) (good .0));
           };
     }
 
