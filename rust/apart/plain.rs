@@ -129,20 +129,79 @@ fn word(b: &[u8]) -> u32 {
     u32::from_le_bytes([b[0], b[1], b[2], b[3]])
 }
 
-/// Reads and judges any bytes, rule by rule. Of 14 each run is held against the one before it, which is enough where
-/// the runs are in order.
+/// Reads and judges any bytes. Of 14 and 15 each run is held against the one before it, of 16 against two of its duty's
+/// earlier ones, which are kept sorted.
 pub fn judge(b: &[u8]) -> Result<Plan, Refused> {
-    judge_by(b, |runs| (1..runs.len()).find(|&k| runs[k - 1].row == runs[k].row && runs[k].first < runs[k - 1].stop()))
+    judge_by(b, quick_rules)
 }
 
-/// The same with 14 as it is said: each run is held against every earlier one.
+/// The same with 14 to 16 as they are said: each run is held against every earlier one.
 pub fn judge_pairwise(b: &[u8]) -> Result<Plan, Refused> {
-    judge_by(b, |runs| (0..runs.len()).find(|&k| runs[..k].iter().any(|x| x.row == runs[k].row && x.meets(&runs[k]))))
+    judge_by(b, pairwise_rules)
 }
 
-/// Reads and judges any bytes, with a way to find the lowest run that shares a unit with an earlier one of its row.
+/// 14 to 16, where 13 holds: of each the lowest run that is so to an earlier one.
 #[inline(always)]
-fn judge_by(b: &[u8], lowest_overlap: impl Fn(&[Run]) -> Option<usize>) -> Result<Plan, Refused> {
+fn pairwise_rules(runs: &[Run]) -> Result<(), Refused> {
+    for (k, y) in runs.iter().enumerate() {
+        if runs[..k].iter().any(|x| x.row == y.row && x.meets(y)) {
+            return Err((14, k as u64));
+        }
+    }
+    for (k, y) in runs.iter().enumerate() {
+        if runs[..k].iter().any(|x| x.row == y.row && x.duty == y.duty && x.stop() == y.first) {
+            return Err((15, k as u64));
+        }
+    }
+    for (k, y) in runs.iter().enumerate() {
+        if runs[..k].iter().any(|x| x.row != y.row && x.duty == y.duty && x.meets(y)) {
+            return Err((16, k as u64));
+        }
+    }
+    Ok(())
+}
+
+/// The same in nearly linear time. In order, and apart on a row, the run before is the only one that can overlap or be
+/// joined. A duty's earlier runs share no unit, so in a list sorted by first unit only the two between which a run
+/// falls can meet it. At k stands what follows run k in its list, behind the runs the first of each duty's list: 0 for
+/// none, else the run's number and 1. A search begins at the duty's last run where it can.
+#[inline(always)]
+fn quick_rules(runs: &[Run]) -> Result<(), Refused> {
+    for k in 1..runs.len() {
+        if runs[k - 1].row == runs[k].row && runs[k].first < runs[k - 1].stop() {
+            return Err((14, k as u64));
+        }
+    }
+    for k in 1..runs.len() {
+        let (x, y) = (&runs[k - 1], &runs[k]);
+        if x.row == y.row && x.duty == y.duty && x.stop() == y.first {
+            return Err((15, k as u64));
+        }
+    }
+    let (mut after, mut last) = ([0u16; 128 + 64], [0u16; 64]);
+    for (k, y) in runs.iter().enumerate() {
+        let starts_before = |run: u16, unit: u32| run != 0 && runs[run as usize - 1].first < unit;
+        let duty = y.duty as usize;
+        let mut at = runs.len() + duty;
+        if starts_before(last[duty], y.first) {
+            at = last[duty] as usize - 1;
+        }
+        while starts_before(after[at], y.first) {
+            at = after[at] as usize - 1;
+        }
+        if at < runs.len() && y.first < runs[at].stop() || starts_before(after[at], y.stop()) {
+            return Err((16, k as u64));
+        }
+        after[k] = after[at];
+        after[at] = k as u16 + 1;
+        last[duty] = k as u16 + 1;
+    }
+    Ok(())
+}
+
+/// Reads and judges any bytes, rule by rule, with a way to look for 14 to 16.
+#[inline(always)]
+fn judge_by(b: &[u8], rules: impl Fn(&[Run]) -> Result<(), Refused>) -> Result<Plan, Refused> {
     let form = |at: usize| Err((10, at as u64));
     if b.len() < 7 || b[0] != 1 {
         return form(0);
@@ -200,19 +259,7 @@ fn judge_by(b: &[u8], lowest_overlap: impl Fn(&[Run]) -> Option<usize>) -> Resul
             return Err((13, k as u64));
         }
     }
-    if let Some(k) = lowest_overlap(runs) {
-        return Err((14, k as u64));
-    }
-    for (k, y) in runs.iter().enumerate() {
-        if runs[..k].iter().any(|x| x.row == y.row && x.duty == y.duty && x.stop() == y.first) {
-            return Err((15, k as u64));
-        }
-    }
-    for (k, y) in runs.iter().enumerate() {
-        if runs[..k].iter().any(|x| x.row != y.row && x.duty == y.duty && x.meets(y)) {
-            return Err((16, k as u64));
-        }
-    }
+    rules(runs)?;
     let mut units = [0u64; 64];
     for x in runs {
         units[x.duty as usize] += x.length as u64;
@@ -257,7 +304,16 @@ impl Plan {
 
 /// The direct question: row and duty.
 pub fn question(b: &[u8], engine: u32, tick: u64) -> Result<(u32, Option<u32>), Refused> {
-    let plan = judge(b)?;
+    reply(judge(b)?, engine, tick)
+}
+
+/// The same with the rules as they are said.
+pub fn question_pairwise(b: &[u8], engine: u32, tick: u64) -> Result<(u32, Option<u32>), Refused> {
+    reply(judge_pairwise(b)?, engine, tick)
+}
+
+#[inline(always)]
+fn reply(plan: Plan, engine: u32, tick: u64) -> Result<(u32, Option<u32>), Refused> {
     if engine >= plan.engines {
         return Err((18, 0));
     }

@@ -232,30 +232,43 @@ pub fn odd_share_set(random: &mut Random) -> Set {
     made_odd(random, set)
 }
 
+/// A run as a table has it: row, duty, first unit and length.
+pub type Stretch = (u8, u8, u32, u32);
+
+/// A table's bytes: duties with these services, each with the block as its period, and these runs.
+pub fn table_bytes(ticks: u32, engines: u8, services: &[u32], runs: &[Stretch]) -> Vec<u8> {
+    let mut b = vec![1];
+    b.extend_from_slice(&ticks.to_le_bytes());
+    b.extend_from_slice(&[engines, services.len() as u8]);
+    for service in services {
+        b.push(2);
+        b.extend_from_slice(&service.to_le_bytes());
+        b.extend_from_slice(&ticks.to_le_bytes());
+    }
+    for &(row, duty, first, length) in runs {
+        b.extend_from_slice(&[3, row, duty]);
+        b.extend_from_slice(&first.to_le_bytes());
+        b.extend_from_slice(&length.to_le_bytes());
+    }
+    b.push(4);
+    b.extend_from_slice(&(runs.len() as u16).to_le_bytes());
+    b
+}
+
 /// A table with nothing wrong up to 13: its runs stand in order, and are drawn at random otherwise. Most start where the
 /// one before stops or later, some sooner; a long one may have many behind it that lie in it.
 pub fn ordered_table(random: &mut Random) -> Vec<u8> {
     let ticks = random.between(2, 60) as u32;
     let (engines, duties) = (random.between(1, 6) as u8, random.between(1, 8) as u8);
     let often = random.between(2, 40);
-    let mut b = vec![1];
-    b.extend_from_slice(&ticks.to_le_bytes());
-    b.extend_from_slice(&[engines, duties]);
-    for _ in 0..duties {
-        b.push(2);
-        b.extend_from_slice(&(random.between(1, ticks as u64) as u32).to_le_bytes());
-        b.extend_from_slice(&ticks.to_le_bytes());
-    }
-    let mut runs = 0u16;
+    let services: Vec<u32> = (0..duties).map(|_| random.between(1, ticks as u64) as u32).collect();
+    let mut runs = Vec::new();
     for row in 0..engines {
         let mut first = random.below(4) as u32;
-        while first < ticks && runs < 128 {
+        while first < ticks && runs.len() < 128 {
             let most = if random.once_in(6) { ticks - first } else { 4.min(ticks - first) };
             let length = random.between(1, most as u64) as u32;
-            b.extend_from_slice(&[3, row, one_of(random, duties)]);
-            b.extend_from_slice(&first.to_le_bytes());
-            b.extend_from_slice(&length.to_le_bytes());
-            runs += 1;
+            runs.push((row, one_of(random, duties), first, length));
             first += if random.once_in(often) {
                 random.between(1, length as u64) as u32
             } else {
@@ -263,9 +276,63 @@ pub fn ordered_table(random: &mut Random) -> Vec<u8> {
             };
         }
     }
-    b.push(4);
-    b.extend_from_slice(&runs.to_le_bytes());
-    b
+    table_bytes(ticks, engines, &services, &runs)
+}
+
+/// A table whose duties go from row to row within a block, so that a duty has many runs on many rows, in any order of
+/// their units. It is accepted; or one run is a unit longer at either end or has another duty.
+pub fn woven_table(random: &mut Random) -> Vec<u8> {
+    let ticks = random.between(2, 60) as u32;
+    let (engines, duties) = (random.between(1, 6) as usize, random.between(1, 8) as usize);
+    let mut runs = woven_runs(random, ticks, engines, duties);
+    while runs.is_empty() || runs.len() > 128 {
+        runs = woven_runs(random, ticks, engines, duties);
+    }
+    let mut services = vec![0; duties];
+    for x in &runs {
+        services[x.1 as usize] += x.3;
+    }
+    let with_units: Vec<usize> = (0..duties).filter(|&i| services[i] > 0).collect();
+    for x in &mut runs {
+        x.1 = with_units.iter().position(|&i| i == x.1 as usize).unwrap_or(0) as u8;
+    }
+    services.retain(|&units| units > 0);
+    let k = random.below(runs.len() as u64) as usize;
+    let (_, duty, first, length) = &mut runs[k];
+    match random.below(6) {
+        0 if *first + *length < ticks => *length += 1,
+        1 if *first > 0 => (*first, *length) = (*first - 1, *length + 1),
+        2 => *duty = one_of(random, services.len() as u8),
+        _ => {}
+    }
+    table_bytes(ticks, engines as u8, &services, &runs)
+}
+
+/// The runs of a block in which from unit to unit two rows may change what they hold, and one may stop or take up a duty
+/// that no row has.
+fn woven_runs(random: &mut Random, ticks: u32, engines: usize, duties: usize) -> Vec<Stretch> {
+    let often = random.between(1, 6);
+    let mut held: Vec<Option<u8>> = (0..engines).map(|r| (r < duties).then_some(r as u8)).collect();
+    let mut rows: Vec<Vec<Stretch>> = vec![Vec::new(); engines];
+    for unit in 0..ticks {
+        if random.once_in(often) {
+            let (one, other) = (random.below(engines as u64) as usize, random.below(engines as u64) as usize);
+            held.swap(one, other);
+        }
+        if random.once_in(2 * often) {
+            let duty = random.below(duties as u64) as u8;
+            let row = random.below(engines as u64) as usize;
+            held[row] = if held.contains(&Some(duty)) { None } else { Some(duty) };
+        }
+        for (row, runs) in rows.iter_mut().enumerate() {
+            match (held[row], runs.last_mut()) {
+                (Some(duty), Some(x)) if x.1 == duty && x.2 + x.3 == unit => x.3 += 1,
+                (Some(duty), _) => runs.push((row as u8, duty, unit, 1)),
+                (None, _) => {}
+            }
+        }
+    }
+    rows.concat()
 }
 
 /// Changes bytes of a table: fields of a record set to other values, records swapped or doubled, cuts and additions.

@@ -11,6 +11,12 @@ mod lanes;
 #[allow(dead_code)]
 #[path = "../apart/plain.rs"]
 mod plain;
+#[allow(dead_code)]
+#[path = "../apart/random.rs"]
+mod random;
+#[allow(dead_code)]
+#[path = "../apart/sets.rs"]
+mod sets;
 
 use std::hint::black_box;
 use std::time::Instant;
@@ -157,48 +163,139 @@ fn shares_in_lanes(blocks: u32, n: usize) {
     question_of_shares(&name, blocks, n, lanes::share_at);
 }
 
-/// A table of so many runs: one row for each engine, each duty with short runs and gaps between them.
-fn table_of(runs: usize) -> Vec<u8> {
-    let engines = 8.min(runs);
-    let each = runs / engines;
-    let ticks = 1000u32;
-    let mut list = Vec::new();
-    for r in 0..engines {
-        for k in 0..each {
-            list.push((r as u8, r as u8, (k * 2) as u32, 1u32));
-        }
-    }
-    let mut b = vec![1];
-    b.extend_from_slice(&ticks.to_le_bytes());
-    b.push(engines as u8);
-    b.push(engines as u8);
-    for _ in 0..engines {
-        b.push(2);
-        b.extend_from_slice(&(each as u32).to_le_bytes());
-        b.extend_from_slice(&ticks.to_le_bytes());
-    }
-    for &(r, i, u, n) in &list {
-        b.extend_from_slice(&[3, r, i]);
-        b.extend_from_slice(&u.to_le_bytes());
-        b.extend_from_slice(&n.to_le_bytes());
-    }
-    b.push(4);
-    b.extend_from_slice(&(list.len() as u16).to_le_bytes());
+/// A table that is accepted, of these runs in blocks of 1,000 ticks.
+fn table(engines: u8, duties: usize, runs: &[sets::Stretch]) -> Vec<u8> {
+    let units = |duty| runs.iter().filter(|x| x.1 as usize == duty).map(|x| x.3).sum();
+    let services: Vec<u32> = (0..duties).map(units).collect();
+    let b = sets::table_bytes(1000, engines, &services, runs);
     assert!(calls::judge(&b).is_ok(), "{:?}", calls::judge(&b));
     b
 }
 
-/// The judging of a table of so many runs by the library and in Rust, which tells how many runs it read.
-fn judged(name: &str, runs: usize, theirs: impl Fn(&[u8]) -> Result<u32, plain::Refused>) {
-    let table = table_of(runs);
+/// So many runs, on 8 rows with a duty each: short runs and gaps between them.
+fn one_row_each(runs: usize) -> Vec<u8> {
+    let rows = 8.min(runs);
+    let each = (runs / rows) as u32;
+    let list: Vec<_> = (0..rows as u8).flat_map(|r| (0..each).map(move |k| (r, r, 2 * k, 1))).collect();
+    table(rows as u8, rows, &list)
+}
+
+/// So many runs, two of each duty, on two rows.
+fn two_rows_each(runs: usize) -> Vec<u8> {
+    let duties = runs as u32 / 2;
+    let list: Vec<_> = (0..2).flat_map(|r| (0..duties).map(move |i| (r, i as u8, 4 * i + 2 * r as u32, 1))).collect();
+    table(2, duties as usize, &list)
+}
+
+/// So many runs, all of one duty, dealt out to 32 rows by turns.
+fn one_duty(runs: usize) -> Vec<u8> {
+    let each = runs as u32 / 32;
+    let list: Vec<_> = (0..32).flat_map(|r| (0..each).map(move |k| (r, 0, 2 * (32 * k + r as u32), 1))).collect();
+    table(32, 1, &list)
+}
+
+/// The longest searches that were found: all runs of one duty, 97 on the first row, and on each other row one run, which
+/// starts after these and before those of the rows above it.
+fn falling() -> Vec<u8> {
+    let first = (0..97).map(|k| (0, 0, 2 * k, 1));
+    let list: Vec<_> = first.chain((1..32).map(|r| (r, 0, 900 - 2 * r as u32, 1))).collect();
+    table(32, 1, &list)
+}
+
+/// The table that the builder writes of n duties.
+fn built(n: usize) -> Vec<u8> {
+    let (engines, services, periods) = duties(n);
+    let mut b = vec![0; 2000];
+    let written = calls::build(engines, &services, &periods, &mut b).unwrap();
+    b.truncate(written);
+    b
+}
+
+/// The same 128 runs as on 8 rows, refused with this number at the last run: not after its forerunner, in it, joined to it,
+/// or of the first duty and with a unit of its last run.
+fn refused(number: u8) -> Vec<u8> {
+    let mut b = one_row_each(128);
+    let (before, last) = (b.len() - 3 - 22, b.len() - 3 - 11);
+    match number {
+        13 => b.copy_within(before + 3..before + 7, last + 3),
+        14 => b[before + 7] = 3,
+        15 => b[before + 7] = 2,
+        _ => b[last + 2] = 0,
+    }
+    assert!(calls::judge(&b).is_err_and(|refusal| (refusal.number, refusal.place) == (number, 127)));
+    b
+}
+
+/// As many calls in a round as take a few milliseconds in plain Rust.
+fn times(runs: u32) -> usize {
+    let runs = runs as usize;
+    100_000 / runs / runs.min(40)
+}
+
+/// The judging of a table by the library, beside plain Rust with the same quick rules and with the rules as they are
+/// said, run by run.
+fn judged(name: &str, table: &[u8]) {
+    let runs = plain::judge(table).map_or(128, |plan| plan.runs);
+    let ours = || {
+        let _ = black_box(calls::judge(black_box(table)));
+    };
+    beside(name, times(runs), ours, || {
+        let _ = black_box(plain::judge(black_box(table)));
+    });
+    beside(&format!("{name}, beside pairwise"), times(runs), ours, || {
+        let _ = black_box(plain::judge_pairwise(black_box(table)));
+    });
+}
+
+/// A way to answer the question in plain Rust.
+type Ask = fn(&[u8], u32, u64) -> Result<(u32, Option<u32>), plain::Refused>;
+
+/// The question by the library, beside the same two.
+fn asked(name: &str, table: &[u8]) {
+    let runs = calls::judge(table).unwrap().runs;
+    for (name, theirs) in [
+        (name.to_string(), plain::question as Ask),
+        (format!("{name}, beside pairwise"), plain::question_pairwise as Ask),
+    ] {
+        let (mut tick, mut other) = (u64::MAX, u64::MAX);
+        beside(
+            &name,
+            times(runs),
+            || {
+                tick = tick.wrapping_sub(977);
+                let _ = black_box(calls::question(black_box(table), Engine(5), tick));
+            },
+            || {
+                other = other.wrapping_sub(977);
+                let _ = black_box(theirs(black_box(table), 5, other));
+            },
+        );
+    }
+}
+
+/// A dispatcher's step and a count by the library and in plain Rust.
+fn stepped_and_counted(runs: usize) {
+    let table = one_row_each(runs);
+    let mut state = calls::start(&table, 0).unwrap();
+    let mut also = state;
     beside(
-        name,
-        100_000 / runs / runs.min(40),
+        &format!("dispatcher step, {runs} runs"),
+        times(runs as u32),
         || {
-            let _ = black_box(calls::judge(black_box(&table)));
+            let _ = black_box(calls::next(black_box(&table), &mut state));
         },
         || {
-            let _ = black_box(theirs(black_box(&table)));
+            let _ = black_box(plain::next(black_box(&table), &mut also));
+        },
+    );
+    beside(
+        &format!("count, {runs} runs"),
+        times(runs as u32),
+        || {
+            let _ = black_box(calls::count(black_box(&table), black_box(1_000_000_000_000)));
+        },
+        || {
+            let _ = black_box(plain::count(black_box(&table), black_box(1_000_000_000_000)));
         },
     );
 }
@@ -237,48 +334,26 @@ fn main() {
         );
     }
     for runs in [8, 16, 32, 64, 128] {
-        judged(&format!("judge, {runs} runs"), runs, |b| plain::judge(b).map(|p| p.runs));
-        judged(&format!("judge, {runs} runs, beside 14 pairwise"), runs, |b| plain::judge_pairwise(b).map(|p| p.runs));
+        judged(&format!("judge, {runs} runs"), &one_row_each(runs));
     }
     for runs in [8, 64, 128] {
-        let table = table_of(runs);
-        let times = 100_000 / runs / runs.min(40);
-        let mut tick = u64::MAX;
-        let mut other = u64::MAX;
-        beside(
-            &format!("question, {runs} runs"),
-            times,
-            || {
-                tick = tick.wrapping_sub(977);
-                let _ = black_box(calls::question(black_box(&table), Engine(5), tick));
-            },
-            || {
-                other = other.wrapping_sub(977);
-                let _ = black_box(plain::question(black_box(&table), 5, other));
-            },
-        );
-        let mut state = calls::start(&table, 0).unwrap();
-        let mut also = state;
-        beside(
-            &format!("dispatcher step, {runs} runs"),
-            times,
-            || {
-                let _ = black_box(calls::next(black_box(&table), &mut state));
-            },
-            || {
-                let _ = black_box(plain::next(black_box(&table), &mut also));
-            },
-        );
-        beside(
-            &format!("count, {runs} runs"),
-            times,
-            || {
-                let _ = black_box(calls::count(black_box(&table), black_box(1_000_000_000_000)));
-            },
-            || {
-                let _ = black_box(plain::count(black_box(&table), black_box(1_000_000_000_000)));
-            },
-        );
+        judged(&format!("judge, {runs} runs, two of each duty"), &two_rows_each(runs));
+    }
+    for n in [8, 64] {
+        let table = built(n);
+        judged(&format!("judge, {} runs as built of {n} duties", calls::judge(&table).unwrap().runs), &table);
+    }
+    judged("judge, 128 runs of one duty", &one_duty(128));
+    judged("judge, 128 runs of one duty, falling", &falling());
+    for number in 13..=16 {
+        judged(&format!("judge, 128 runs, {number} at the last"), &refused(number));
+    }
+    for runs in [8, 64, 128] {
+        asked(&format!("question, {runs} runs"), &one_row_each(runs));
+    }
+    asked("question, 128 runs of one duty", &one_duty(128));
+    for runs in [8, 64, 128] {
+        stepped_and_counted(runs);
     }
     for (blocks, n) in [(1, 64), (64, 8), (512, 64), (4_096, 8), (4_096, 64)] {
         shares(blocks, n);

@@ -1,6 +1,6 @@
 //! The second program: compares the proved library with planners written apart that fill blocks tick by tick, on many
-//! sets and patched tables, on as many tables whose runs are in order but lie in one another, and on as many sets for
-//! plans of shares.
+//! sets and patched tables, on as many tables whose runs are in order but lie in one another, on as many whose duties go
+//! from row to row, and on as many sets for plans of shares.
 //!
 //!     cargo run --release --example compare -- [SETS] [--plant ERROR]
 //!
@@ -252,6 +252,7 @@ fn part(seed: u64, sets: u64, apart: Apart) -> Result<Seen, String> {
     let mut random = Random::new(seed);
     let mut other = Random::new(seed + 1_000);
     let mut ordered = Random::new(seed + 2_000);
+    let mut woven = Random::new(seed + 3_000);
     for set in sets::refused_sets() {
         shares_compared::compare(&mut seen.shares, &mut other, &set, apart.steps)?;
     }
@@ -265,6 +266,8 @@ fn part(seed: u64, sets: u64, apart: Apart) -> Result<Seen, String> {
         compare_set(&mut seen, &mut random, &set, apart.turn)?;
         let table = sets::ordered_table(&mut ordered);
         compare_table(&mut seen, &mut ordered, &table, apart.turn)?;
+        let table = sets::woven_table(&mut woven);
+        compare_table(&mut seen, &mut woven, &table, apart.turn)?;
         let set = shares_compared::draw(&mut other, k);
         shares_compared::compare(&mut seen.shares, &mut other, &set, apart.steps)?;
     }

@@ -58,7 +58,8 @@ impl Comparison {
         }
     }
 
-    /// One set, its table and patches of it if it has one, a table of runs in order, and some bytes drawn at random.
+    /// One set, its table and patches of it if it has one, a table of runs in order, one whose duties go from row to row,
+    /// and some bytes drawn at random.
     fn round(&mut self, random: &mut Random) {
         if let Some(table) = self.build(random) {
             self.table(random, &table);
@@ -69,6 +70,8 @@ impl Comparison {
         }
         let ordered = sets::ordered_table(random);
         self.table(random, &ordered);
+        let woven = sets::woven_table(random);
+        self.table(random, &woven);
         let noise: Vec<u8> = (0..random.below(60)).map(|_| random.below(5) as u8).collect();
         self.table(random, &noise);
         let set = share_set(random);
@@ -139,7 +142,9 @@ impl Comparison {
         let engine = random.below(most) as u32;
         let tick = far(random);
         let ours = calls::question(table, Engine(engine), tick).map_err(pair).map(|r| (r.row.0, duty(r.held)));
-        self.same("question", ours, plain::question(table, engine, tick), &(engine, tick, table));
+        for plainly in [plain::question, plain::question_pairwise] {
+            self.same("question", ours, plainly(table, engine, tick), &(engine, tick, table));
+        }
     }
 
     fn count(&mut self, random: &mut Random, table: &[u8]) {
