@@ -192,6 +192,27 @@ fn rows() {
     });
 }
 
+/// 16 where a duty's runs on three rows only touch, and where the last of them meets the run that starts before it, the
+/// one that starts after it, or both; and 15 where the run that stops there is on another row.
+fn woven() {
+    let with_last = |name: &str, first, length| {
+        let mut runs = vec![(0, 0, 0, 2), (0, 0, 8, 2), (1, 0, 4, 2), (2, 0, 2, 2)];
+        runs.push((2, 0, first, length));
+        let service = runs.iter().map(|x| x.3).sum();
+        let hand = Hand { ticks: 12, engines: 3, duties: vec![(service, 12)], runs, count: None };
+        judge(name, &hand.bytes());
+    };
+    with_last("a duty's runs end to end on three rows", 6, 2);
+    with_last("the last one unit longer", 6, 3);
+    with_last("the last one unit sooner", 5, 2);
+    with_last("the last over its neighbours", 5, 4);
+    with_last("the last behind all", 10, 2);
+    changed("a run that starts where its forerunner on another row stops", |h| {
+        h.duties = vec![(6, 6)];
+        h.runs = vec![(0, 0, 0, 4), (1, 0, 4, 2)];
+    });
+}
+
 fn asked() {
     let table = Hand::good().bytes();
     for engine in [0, 1, 2, 255, 256, u32::MAX] {
@@ -219,5 +240,6 @@ fn main() {
     forms();
     faults();
     rows();
+    woven();
     asked();
 }
