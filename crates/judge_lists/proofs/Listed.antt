@@ -12,9 +12,11 @@ use Rattle.record_read.proofs.Table.{table-runs, table-run}
 use Rattle.table_laws.proofs.Forerunners.{found-apart}
 use Rattle.table_laws.proofs.SortedRuns.{Rowed}
 
+-- run k is one of the list
 pub in-list : (b : List ℕ) (rd : Reading) (k : ℕ) → k < rd .runs → k < length (tableOf b rd .runs)
 in-list b rd k h = omega (arith, table-runs b rd)
 
+-- its duty is one of the table's
 pub owned : {b : List ℕ} {rd : Reading} → Formed b rd → (k : ℕ) → k < rd .runs → runAt (tableOf b rd .runs) k .duty < rd .duties
 owned {b} {rd} F k h = rw (table-run b rd k h) (F .run-ranged k h .duty-below)
 

@@ -22,34 +22,33 @@ Inv-loop b rd kind from n k₀ k = Comparing (amissAt kind (tableOf b rd .runs))
 abbrev μ-loop : tie.MeasureT-loop
 μ-loop b rd kind from n k₀ k = rd .runs - k
 
--- what is told of two runs that were read is told of their numbers
+-- what is told of the two runs that were read is told of their numbers
 told : (kind : Amiss) (xs : List Run) (j k : ℕ) {x y : Run} {r v : Bool} → x ≡ runAt xs j → y ≡ runAt xs k → r ≡ amiss kind x y → r ≡ v
     → amissAt kind xs j k ≡ v
 told kind xs j k p q e t = rw (← p, ← q) (sym e ∙ t)
+
+told-here : (c : tie.After-is-amiss Inv-loop μ-loop) {v : Bool} → c .is-amiss .result ≡ v →
+    let args = c .before .before .before .before .before .before .before .args in
+    let k = c .before .before .before .before .loop .k in
+    amissAt (args .kind) (tableOf (args .b .now) (args .rd) .runs) (k - 1) k ≡ v
+told-here c t =
+    let args = c .before .before .before .before .before .before .before .args in
+    let k = c .before .before .before .before .loop .k in
+    let forerunner = c .before .before .run-of .ensures .0 in
+    let run = c .before .run-of2 .ensures .0 in
+    told (args .kind) (tableOf (args .b .now) (args .rd) .runs) (k - 1) k forerunner run (c .is-amiss .ensures) t
 
 loop-holds : tie.Need-loop-holds Inv-loop μ-loop
 loop-holds c = c .before .before .pre .1
 
 returns : tie.Need-returns Inv-loop μ-loop
 returns c =
-    let start = c .before .before .before .before .before .before .before .before in
-    let xs = tableOf (start .args .b .now) (start .args .rd) .runs in
-    let loop = c .before .before .before .before .before .loop in
-    let forerunner = c .before .before .before .run-of .ensures .0 in
-    let run = c .before .before .run-of2 .ensures .0 in
-    rw (table-runs (start .args .b .now) (start .args .rd))
-    (compare-hit (loop .inv) (search needs)
-    (told (start .args .kind) xs (loop .k - 1) (loop .k) forerunner run (c .before .is-amiss .ensures) (c .if1 .taken)))
+    let args = c .before .before .before .before .before .before .before .before .args in
+    rw (table-runs (args .b .now) (args .rd))
+    (compare-hit (c .before .before .before .before .before .loop .inv) (search needs) (told-here (c .before) (c .if1 .taken)))
 
 loop-again : tie.Need-loop-again Inv-loop μ-loop
-loop-again c =
-    let start = c .before .before .before .before .before .before .before .before in
-    let xs = tableOf (start .args .b .now) (start .args .rd) .runs in
-    let loop = c .before .before .before .before .before .loop in
-    let forerunner = c .before .before .before .run-of .ensures .0 in
-    let run = c .before .before .run-of2 .ensures .0 in
-    compare-more (loop .inv)
-    (told (start .args .kind) xs (loop .k - 1) (loop .k) forerunner run (c .before .is-amiss .ensures) (c .if1 .left))
+loop-again c = compare-more (c .before .before .before .before .before .loop .inv) (told-here (c .before) (c .if1 .left))
 
 returns-2 : tie.Need-returns-2 Inv-loop μ-loop
 returns-2 c =
