@@ -233,10 +233,10 @@ pub fn odd_share_set(random: &mut Random) -> Set {
 }
 
 /// A run as a table has it: row, duty, first unit and length.
-pub type Stretch = (u8, u8, u32, u32);
+pub type Run = (u8, u8, u32, u32);
 
 /// A table's bytes: duties with these services, each with the block as its period, and these runs.
-pub fn table_bytes(ticks: u32, engines: u8, services: &[u32], runs: &[Stretch]) -> Vec<u8> {
+pub fn table_bytes(ticks: u32, engines: u8, services: &[u32], runs: &[Run]) -> Vec<u8> {
     let mut b = vec![1];
     b.extend_from_slice(&ticks.to_le_bytes());
     b.extend_from_slice(&[engines, services.len() as u8]);
@@ -310,10 +310,10 @@ pub fn woven_table(random: &mut Random) -> Vec<u8> {
 
 /// The runs of a block in which from unit to unit two rows may change what they hold, and one may stop or take up a duty
 /// that no row has.
-fn woven_runs(random: &mut Random, ticks: u32, engines: usize, duties: usize) -> Vec<Stretch> {
+fn woven_runs(random: &mut Random, ticks: u32, engines: usize, duties: usize) -> Vec<Run> {
     let often = random.between(1, 6);
     let mut held: Vec<Option<u8>> = (0..engines).map(|r| (r < duties).then_some(r as u8)).collect();
-    let mut rows: Vec<Vec<Stretch>> = vec![Vec::new(); engines];
+    let mut rows: Vec<Vec<Run>> = vec![Vec::new(); engines];
     for unit in 0..ticks {
         if random.once_in(often) {
             let (one, other) = (random.below(engines as u64) as usize, random.below(engines as u64) as usize);

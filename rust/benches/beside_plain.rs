@@ -164,7 +164,7 @@ fn shares_in_lanes(blocks: u32, n: usize) {
 }
 
 /// A table that is accepted, of these runs in blocks of 1,000 ticks.
-fn table(engines: u8, duties: usize, runs: &[sets::Stretch]) -> Vec<u8> {
+fn table(engines: u8, duties: usize, runs: &[sets::Run]) -> Vec<u8> {
     let units = |duty| runs.iter().filter(|x| x.1 as usize == duty).map(|x| x.3).sum();
     let services: Vec<u32> = (0..duties).map(units).collect();
     let b = sets::table_bytes(1000, engines, &services, runs);
@@ -226,7 +226,7 @@ fn refused(number: u8) -> Vec<u8> {
     b
 }
 
-/// As many calls in a round as take a few milliseconds in plain Rust.
+/// As many calls in a round as pairwise plain Rust makes in 0.1 to 0.4 ms.
 fn times(runs: u32) -> usize {
     let runs = runs as usize;
     100_000 / runs / runs.min(40)
