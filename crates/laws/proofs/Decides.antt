@@ -1,13 +1,15 @@
 -- A test that decides a condition holds where the condition does and fails where it does not. A search for the lowest number that fails
 -- the test then finds the lowest without the condition, or none where all have it.
 -- Assumes nothing.
-use Prim.Native.Nat.{ℕ, _+_, _≤_, _<_}
+use Prim.Native.Nat.{ℕ, _+_, _%_, _≤_, _<_, _∣_}
 use mathlib.Core.Path.{_≡_, ap}
 use mathlib.Core.Bool.{Bool, true, false, not, _&&_}
 use mathlib.Core.Logic.{_↔_}
+use native.Mathlib.Nat.{dvd-of-mod-eq-zero, mod-eq-zero-of-dvd}
 use lib.Dec.{leb, ltb, eqb}
 use borrow.Author.Tests.{leb-true, ltb-true, eqb-true, le-leb, lt-ltb, eq-eqb, not-true, not-false}
 use Rattle.laws.specs.Search.{first}
+use Rattle.laws.specs.Divisor.{divides}
 use Rattle.laws.proofs.Cases.{not-both, refuted, and-left, and-right, and-both}
 use Rattle.laws.proofs.Search.{first-is, first-clear, first-holds, none-clear, clear-none}
 
@@ -30,6 +32,10 @@ failed b d n = refuted b (λ h. n (d .0 h))
 -- the test of an equation
 pub eqb-decides : (a b : ℕ) → Decides (eqb a b) (a ≡ b)
 eqb-decides a b = (eqb-true a b, eq-eqb a b)
+
+-- the test whether a number divides another
+pub divides-decides : (a b : ℕ) → Decides (divides a b) (a ∣ b)
+divides-decides a b = ((λ h. dvd-of-mod-eq-zero a (eqb-true (b % a) 0 h)), (λ d. eq-eqb (b % a) 0 (mod-eq-zero-of-dvd a d)))
 
 -- the stretch of l places from a on has the place u
 abbrev pub spans : (a l u : ℕ) → Bool

@@ -4,6 +4,7 @@
 use Prim.Native.Nat.{ℕ, zero, suc, _+_, _-_, _%_, _≤_, _<_, _∣_}
 use mathlib.Core.Path.{_≡_, refl, sym, ap, _∙_}
 use mathlib.Core.List.{List, [], _∷_}
+use mathlib.Core.Logic.{_↔_}
 use native.Mathlib.Nat.{mod-lt, dvd-refl, dvd-zero, dvd-trans, dvd-mod-iff, dvd-antisymm, zero-lt-suc, not-suc-le-zero, le-of-suc-le-suc}
 use native.Mathlib.Omega.{arith}
 use native.Mathlib.Numerals.{add-one}
@@ -100,6 +101,10 @@ pub gcdOf-greatest : (xs : List ℕ) (d : ℕ) → ((k : ℕ) → k < length xs 
 unfolding gcdOf
 gcdOf-greatest [] d h = dvd-zero d
 gcdOf-greatest (x ∷ xs) d h = gcd-greatest x (gcdOf xs) d (h 0 (omega arith)) (gcdOf-greatest xs d (λ k l. h (suc k) (omega arith)))
+
+-- so the common divisors of all entries are the divisors of the greatest
+pub gcdOf-common : (xs : List ℕ) (d : ℕ) → (d ∣ gcdOf xs) ↔ ((k : ℕ) → k < length xs → d ∣ getD xs k 0)
+gcdOf-common xs d = ((λ h k l. dvd-trans d h (gcdOf-divides xs k l)), gcdOf-greatest xs d)
 
 -- a loop that goes through a list from its front keeps gcd g (gcdOf of what is left)
 pub gcd-through : (g x : ℕ) (xs : List ℕ) → gcd g (gcdOf (x ∷ xs)) ≡ gcd (gcd g x) (gcdOf xs)
