@@ -7,7 +7,7 @@ cd "$(dirname "$0")/.." || exit 2
 failed=0
 
 bare=$(grep -nE '(^|[^0-9A-Za-z_.])([7-9]|[1-9][0-9_]+)($|[^0-9A-Za-z_.])' crates/*/src/*.rt crates/*/specs/*.antt |
-    grep -vE '^crates/(paper/src/limits.rt|paper/specs/(Limits|Cases|ShareCases|Text).antt|laws/)' |
+    grep -vE '^crates/(paper/src/limits.rt|paper/specs/(Limits|Cases|LengthCases|ShareCases|Text).antt|laws/)' |
     grep -vE '^[^:]*:[0-9]+: *(//|--|ghost use|use)' |
     sed -E "s/b'.'//g" |
     sed -E 's/(number: |refused |refusal |fault )[0-9]+//g; s/2 \^ (32|64)//g; s/(^|[^0-9])(10|255|256|65536)($|[^0-9])/\1\3/g' |

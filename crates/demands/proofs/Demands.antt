@@ -1,7 +1,7 @@
--- The three demands on the base, as theorems on the definitions. Each is a citation; the arguments stand in the files named in the `use`
+-- The three demands, as theorems on the definitions. Each is a citation; the arguments stand in the files named in the `use`
 -- lines. What the code does is tied to these definitions by the contracts, each of which is an equation with one of them.
 -- Assumes nothing.
-use Prim.Native.Nat.{ℕ, _+_, _*_, _/_, _%_, _^_, _≤_, _<_}
+use Prim.Native.Nat.{ℕ, _+_, _*_, _/_, _%_, _^_, _≤_, _<_, _∣_}
 use mathlib.Core.Path.{_≡_, refl}
 use mathlib.Core.List.{List}
 use mathlib.Core.Logic.{_↔_, _⊎_, inl, inr}
@@ -22,7 +22,7 @@ use Rattle.paper.specs.Outcome.{Outcome, refused, answer, andThen, leaves}
 use Rattle.paper.specs.Limits.{small, mostBlocks}
 use Rattle.paper.specs.Bytes.{bytesOf}
 use Rattle.paper.specs.Wanted.{Wanted, wantedOf, dutySet, taken}
-use Rattle.paper.specs.Builder.{plan, build}
+use Rattle.paper.specs.Builder.{planAt, lengthMeant, plan, build}
 use Rattle.paper.specs.Rules.{accepted, judged}
 use Rattle.paper.specs.Statements.{Ranged, Meets}
 use Rattle.paper.specs.declared.State.{State}
@@ -33,11 +33,13 @@ use Rattle.walk_laws.proofs.Page.{row-start, row-after, walk-is, served-jobs}
 use Rattle.walk_laws.proofs.Page as page
 use Rattle.paper.proofs.Passed.{From}
 use Rattle.plan_laws.proofs.TakenWhen.{WhenTaken, taken-when}
-use Rattle.plan_laws.proofs.PlanWhen.{When, plan-when}
-use Rattle.plan_laws.proofs.Planned.{planned-sa1, planned-wanted, WhenBuilt, built-when, built, built-accepted}
+use Rattle.plan_laws.proofs.PlanWhen.{When, plan-when, plan-greatest}
+use Rattle.plan_laws.proofs.Planned.{planned-sa1, planned-ticks, planned-wanted, WhenBuilt, built-when, built, built-accepted}
+use Rattle.table_laws.proofs.Rules.{Whole}
+use Rattle.table_laws.proofs.Whole.{whole-longer}
 use Rattle.table_laws.proofs.AcceptedBytes.{accepted-ranged, accepted-meets, accepted-when}
 use Rattle.plan_laws.proofs.Listed.{Listed, build-listed, judged-listed, question-listed, start-listed, row-listed, next-listed}
-use Rattle.plan_laws.proofs.Listed.{counted-listed, input-listed}
+use Rattle.plan_laws.proofs.Listed.{BuildNumber, counted-listed, input-listed}
 use Rattle.paper.proofs.Calls.{advancedBy, question-is, start-is, row-is, row-strange, next-strange, next-all, counted-is}
 
 -- ---- Demand 1. "Every call takes whatever numbers and bytes arrive, ends, and either answers or refuses with the number document 01
@@ -51,7 +53,7 @@ settled (answer a) = inl (a, refl)
 
 -- the numbers of each call's refusals; each fits a byte, and each place is within the bound on places
 pub refusals-listed :
-    ((x : Wanted) (room : ℕ) → Listed (From 1 8) (build x room))
+    ((wish : ℕ) (x : Wanted) (room : ℕ) → Listed BuildNumber (build wish x room))
     × ((b : List ℕ) → Listed (From 10 17) (judged b))
     × ((b : List ℕ) (e : Engine) (k : ℕ) → Listed (From 10 18) (question b e k))
     × ((b : List ℕ) (k : ℕ) → Listed (From 10 17) (start b k))
@@ -68,39 +70,51 @@ refusal-writes-nothing = refused-leaves
 -- ---- Demand 2. "The plan is SA1's; every duty gets exactly its service in each period, no engine two duties in a tick, no duty two
 -- ---- engines. A table is accepted, whoever wrote it, exactly when it meets document 01's rules."
 
--- the plan is SA1's
-pub plan-sa1 : (x : Wanted) (t : Table) → plan x ≡ answer t → t ≡ sa1 (blockLengthOf (dutySet x)) (x .engines) (dutySet x)
+-- the plan is SA1's, in blocks of the length that the wish means: "0 meaning the greatest common divisor", else itself
+pub plan-sa1 :
+    (wish : ℕ) (x : Wanted) (t : Table) → plan wish x ≡ answer t → t ≡ sa1 (lengthMeant wish (dutySet x)) (x .engines) (dutySet x)
 plan-sa1 = planned-sa1
 
--- what is wanted is taken, or one of refusals 1 to 5 with its place, exactly where the document says so; the same with 6 and 7 for the
+-- with 0 it is the plan of document 01: 24 is never given
+pub plan-as-before : (x : Wanted) → plan 0 x ≡ andThen (taken x) (λ ds. planAt (blockLengthOf ds) (x .engines) ds)
+plan-as-before = plan-greatest
+
+-- what is wanted is taken, or one of refusals 1 to 5 with its place, exactly where the document says so; the same with 24, 6 and 7 for the
 -- plan, and with 8 for the bytes
 pub taken-exactly : (x : Wanted) (o : Outcome (List Duty)) → (taken x ≡ o) ↔ WhenTaken x o
 taken-exactly = taken-when
 
-pub plan-exactly : (x : Wanted) (o : Outcome Table) → (plan x ≡ o) ↔ When x o
+pub plan-exactly : (wish : ℕ) (x : Wanted) (o : Outcome Table) → (plan wish x ≡ o) ↔ When wish x o
 plan-exactly = plan-when
 
-pub build-exactly : (x : Wanted) (room : ℕ) (o : Outcome (List ℕ)) → (build x room ≡ o) ↔ WhenBuilt x room o
+pub build-exactly : (wish : ℕ) (x : Wanted) (room : ℕ) (o : Outcome (List ℕ)) → (build wish x room ≡ o) ↔ WhenBuilt wish x room o
 build-exactly = built-when
 
--- what the builder writes is accepted and reads back as the plan of what was wanted
-pub record ReadsBack (x : Wanted) (b : List ℕ) : Type 0 where
+-- a shorter block never makes a slice whole that was not: what is whole for T is whole for every multiple of T
+pub shorter-never-mends : (t u : ℕ) (ds : List Duty) (i : ℕ) → t ∣ u → Whole t ds i → Whole u ds i
+shorter-never-mends = whole-longer
+
+-- what the builder writes is accepted and reads back as the plan of what was wanted, in blocks of the length that was meant
+pub record ReadsBack (wish : ℕ) (x : Wanted) (b : List ℕ) : Type 0 where
   pub table : Table
-  pub is-plan : plan x ≡ answer table
+  pub is-plan : plan wish x ≡ answer table
   pub is-read : accepted b ≡ answer table
   pub is-wanted : wantedOf (table .engines) (table .duties) ≡ x
+  pub is-long : table .ticks ≡ lengthMeant wish (dutySet x)
 
-pub build-reads-back : (x : Wanted) (room : ℕ) (b : List ℕ) → build x room ≡ answer b → ReadsBack x b
-build-reads-back x room b h =
-    let r = built x room b h in
+pub build-reads-back : (wish : ℕ) (x : Wanted) (room : ℕ) (b : List ℕ) → build wish x room ≡ answer b → ReadsBack wish x b
+build-reads-back wish x room b h =
+    let r = built wish x room b h in
     record {
       table = r .table;
       is-plan = r .plans;
-      is-read = built-accepted x room b h;
-      is-wanted = planned-wanted x (r .table) (r .plans);
+      is-read = built-accepted wish x room b h;
+      is-wanted = planned-wanted wish x (r .table) (r .plans);
+      is-long = planned-ticks wish x (r .table) (r .plans);
     }
 
--- bytes are accepted as a table exactly when they are its bytes, every field is in range and rules 11 to 17 are met
+-- bytes are accepted as a table exactly when they are its bytes, every field is in range and rules 11 to 17 are met: T may be any common
+-- divisor of the periods, and what follows holds for each
 pub accepted-exactly : (b : List ℕ) (t : Table) → AreBytes b → (accepted b ≡ answer t) ↔ ((bytesOf t ≡ b) × Ranged small t × Meets t)
 accepted-exactly = accepted-when
 

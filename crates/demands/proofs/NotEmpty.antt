@@ -1,6 +1,7 @@
 -- The theorems of `Demands` speak of something. A table written by hand is accepted, and the builder plans it for no engines and duties: it
--- has five runs where SA1 has two. The table and the bytes of P2 meet the theorems' hypotheses, and what the theorems then say of them
--- is stated here, and of 004's table 3 as a plan of shares. Sets that the builder plans and sets that it refuses stand in `CasesHold`.
+-- has five runs where SA1 has two. Another has blocks of half the greatest length. The table and the bytes of P2 meet the theorems'
+-- hypotheses, and what the theorems then say of them is stated here, and of 004's table 3 as a plan of shares. Sets that the builder plans
+-- and sets that it refuses stand in `CasesHold` and `LengthCasesHold`.
 -- Assumes nothing.
 use Prim.Native.Nat.{ℕ, _*_}
 use mathlib.Core.Path.{_≡_, refl, ap, _∙_}
@@ -26,7 +27,7 @@ use Rattle.paper.specs.Limits.{small, mostEngines}
 use Rattle.paper.specs.Bytes.{parse, afterHead, afterRuns, headGood, dutyGood, runGood, endGood, badDuty, goodRuns, tableIn, stands}
 use Rattle.paper.specs.Bytes.{dutyIn, runIn, encode, bytesOf, headBytes, dutyBytes, runBytes, endBytes}
 use Rattle.paper.specs.Wanted.{Wanted, wanted, dutySet, dutiesOf, badRange, inRange, taken}
-use Rattle.paper.specs.Builder.{badSlice, planAt, plan, fitted, build}
+use Rattle.paper.specs.Builder.{badSlice, planAt, lengthMeant, plan, fitted, build}
 use Rattle.paper.specs.Rules.{before, meet, unordered, overlaps, joins, twice, lowest, unitsOf, badSum, badOrder, judgeRuns, judgeDuties}
 use Rattle.paper.specs.Rules.{judgeTable, accepted}
 use Rattle.paper.specs.Statements.{Meets}
@@ -68,9 +69,9 @@ unfolding sa1
 sa1-own x t m ds e = rw e
 
 -- so the builder never plans it
-pub byHand-unplanned : (x : Wanted) → plan x ≡ answer byHand → ⊥
+pub byHand-unplanned : (wish : ℕ) (x : Wanted) → plan wish x ≡ answer byHand → ⊥
 unfolding byHand
-byHand-unplanned x h = byHand-own (sa1-own byHand (blockLengthOf (dutySet x)) (x .engines) (dutySet x) (plan-sa1 x byHand h))
+byHand-unplanned wish x h = byHand-own (sa1-own byHand (lengthMeant wish (dutySet x)) (x .engines) (dutySet x) (plan-sa1 wish x byHand h))
 
 -- its bytes are bytes, and it meets the rules
 pub byHand-bytes : AreBytes (bytesOf byHand)
@@ -98,10 +99,47 @@ state-of-byHand =
     strange-refused (bytesOf byHand) byHand byHand-accepted (record { block = 0; rows = [] })
     (λ e. let z : 0 ≡ mostEngines = ap length e ∙ length-tab mostEngines _ in omega arith) .1
 
+-- ---- a table with shorter blocks
+
+-- two duties in blocks of 3 ticks, where the greatest common divisor of the periods is 6; duty 0 is on both rows, which so are a chain
+pub byHandShort : Table
+byHandShort =
+    record {
+      ticks = 3;
+      engines = 2;
+      duties = duty 8 12 ∷ duty 6 18 ∷ [];
+      runs = run 0 0 2 1 ∷ run 1 0 0 1 ∷ run 1 1 2 1 ∷ [];
+    }
+
+-- it is accepted
+pub byHandShort-accepted : accepted (bytesOf byHandShort) ≡ answer byHandShort
+unfolding byHandShort accepted parse afterHead afterRuns tableIn stands dutyIn runIn numAt tab encode headBytes dutyBytes runBytes endBytes
+    flat digits judgeTable judgeDuties judgeRuns overlaps joins twice meet before unordered unitsOf whole slice first
+byHandShort-accepted = refl
+
+-- job 3 of duty 0, which has the ticks 36 to 47, runs for 8 ticks of them
+pub job-of-byHandShort : served 2 (walk byHandShort) 0 36 12 ≡ 8
+unfolding byHandShort
+job-of-byHandShort = jobs-served (bytesOf byHandShort) byHandShort byHandShort-accepted 0 (omega arith) 3
+
+-- at tick 5, in block 1, engine 0 runs row 1, where unit 2 is duty 1's
+pub question-of-byHandShort : question (bytesOf byHandShort) (engine 0) 5 ≡ answer (record { held = By 1; row = row 1 })
+unfolding byHandShort walk link heldIn covers same rowAt nextOf firstOf
+question-of-byHandShort = question-walks (bytesOf byHandShort) byHandShort byHandShort-accepted (engine 0) 5 (omega arith)
+
+-- in blocks of 3 the builder gives these duties other runs
+pub byHandShort-other :
+    plan 3 (wanted 2 (8 ∷ 6 ∷ []) (12 ∷ 18 ∷ [])) ≡ answer (sa1 3 2 (byHandShort .duties))
+    × (length (sa1 3 2 (byHandShort .duties) .runs) ≡ 2)
+unfolding byHandShort plan taken inRange planAt sa1 lay layOne rowAfter unitAfter slice whole dutiesOf tab sumOf first
+byHandShort-other = (refl, refl)
+
+-- ---- the builder at work
+
 -- the builder writes P2's 30 bytes into a buffer of 30, and refuses one of 29
-pub built-p2 : (build (wanted 1 (1 ∷ []) (1 ∷ [])) 30 ≡ answer
+pub built-p2 : (build 0 (wanted 1 (1 ∷ []) (1 ∷ [])) 30 ≡ answer
     (1 ∷ 1 ∷ 0 ∷ 0 ∷ 0 ∷ 1 ∷ 1 ∷ 2 ∷ 1 ∷ 0 ∷ 0 ∷ 0 ∷ 1 ∷ 0 ∷ 0 ∷ 0 ∷ 3 ∷ 0 ∷ 0 ∷ 0 ∷ 0 ∷ 0 ∷ 0 ∷ 1 ∷ 0 ∷ 0 ∷ 0 ∷ 4 ∷ 1 ∷ 0 ∷ []))
-    × (build (wanted 1 (1 ∷ []) (1 ∷ [])) 29 ≡ refused 8 30)
+    × (build 0 (wanted 1 (1 ∷ []) (1 ∷ [])) 29 ≡ refused 8 30)
 unfolding plan taken inRange planAt sa1 lay layOne rowAfter unitAfter slice whole blockLengthOf gcdOf gcd euclid dutiesOf tab sumOf first
     encode headBytes dutyBytes runBytes endBytes flat digits
 built-p2 = (refl, refl)

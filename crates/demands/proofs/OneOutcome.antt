@@ -219,8 +219,10 @@ numbered-entries f (answer a) g n p e = answered (f a) n p e
 
 -- ---- and so has each call's
 
-pub build-numbered : (x : Wanted) (table lent : List ℕ) → Numbered (buildCall x table lent)
-build-numbered x table lent = numbered-needing wordRoom lent _ (numbered-listed _ (λ n l. omega arith) (build-listed x (length table)))
+pub build-numbered : (wish : ℕ) (x : Wanted) (table lent : List ℕ) → Numbered (buildCall wish x table lent)
+build-numbered wish x table lent =
+    numbered-needing wordRoom lent _
+    (numbered-listed _ (λ n. ⊎-elim (λ l. omega arith) (λ l. omega arith)) (build-listed wish x (length table)))
 
 pub judge-numbered : (b lent : List ℕ) → Numbered (judgeCall b lent)
 judge-numbered b lent = numbered-needing readingRoom lent _

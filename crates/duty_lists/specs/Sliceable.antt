@@ -13,7 +13,7 @@ pub record Paired (ss ps : List ℕ) : Type 0 where
   pub same : length ss ≡ length ps
   pub few : length ss ≤ mostDuties
 
--- what the tests up to refusal 5 have made sure of, and a block length in range. Nothing here says that it is the greatest
+-- what the tests up to refusal 5 have made sure of, and a block length in range
 pub record Sliceable (t : ℕ) (ss ps : List ℕ) : Type 0 where
   pub paired : Paired ss ps
   pub ticks-least : 1 ≤ t

@@ -8,7 +8,7 @@ ghost use Rattle.table_tally.specs.Tally.{noEdges, edgesOf};
 ghost use Rattle.judge_runs.specs.Halves.{judgeService};
 ghost use Rattle.judge.specs.Ruled.{RunsRuled, Ruled};
 use judge_lowest::bad_slice;
-use judge_lowest::block_length_of;
+use judge_lowest::is_undivided;
 use judge_runs::judge_rows;
 use judge_runs::judge_service;
 use paper::Fault;
@@ -27,7 +27,7 @@ fn judge_duties(b: &[u8], rd: Reading) -> Judged
     requires { ⌜ Formed (now b) rd ⌝ }
     ensures { λ r. ⌜ judgedAs r ≡ andThen (judgeDuties (tableOf (now (b .entry)) rd)) (λ t. answer (readingOf t)) ⌝ }
 {
-    if rd.block_length != block_length_of(b, rd) {
+    if is_undivided(b, rd) {
         return Judged::Bad(Fault::BlockLength);
     }
     let d = bad_slice(b, rd);

@@ -1,8 +1,8 @@
 // Of the rules that are said of a duty, the lowest duty of a table's bytes in good form that breaks it: 12, a slice that is not whole; 17,
-// runs that do not add up to the slice. Rule 11 has no place: here is the block length that it asks for.
+// runs that do not add up to the slice. Rule 11 has no place: it is told whether it is broken.
 ghost use mathlib.Core.Path.{_≡_};
 ghost use Prim.Native.Nat.{_<_};
-ghost use Rattle.paper.specs.Words.{blockLengthOf};
+ghost use Rattle.paper.specs.Words.{undivided};
 ghost use Rattle.paper.specs.Builder.{badSlice};
 ghost use Rattle.paper.specs.Rules.{badSum};
 ghost use Rattle.record_read.specs.Formed.{Formed, tableOf};
@@ -11,23 +11,24 @@ ghost use Rattle.judge_lowest.specs.Breaks.{wrongSum};
 use paper::Reading;
 use paper::limits::MOST_DUTIES;
 use record_read::duty_of;
-use slices::gcd_of;
 use slices::is_whole;
 use slices::slice_of;
 
-// The greatest common divisor of all periods.
-pub fn block_length_of(b: &[u8], rd: Reading) -> u32
+// Whether T does not divide every period.
+pub fn is_undivided(b: &[u8], rd: Reading) -> bool
     requires { ⌜ Formed (now b) rd ⌝ }
-    ensures { λ r. ⌜ r ≡ blockLengthOf (tableOf (now (b .entry)) rd .duties) ⌝ }
+    ensures { λ r. ⌜ r ≡ undivided (tableOf (now (b .entry)) rd .ticks) (tableOf (now (b .entry)) rd .duties) ⌝ }
 {
     let n = rd.duties as usize;
-    let mut g: u32 = 0;
+    let t = rd.block_length;
     let mut d = 0;
     while d < n {
-        g = gcd_of(g, duty_of(b, rd, d).period);
+        if duty_of(b, rd, d).period % t != 0 {
+            return true;
+        }
         d += 1;
     }
-    g
+    false
 }
 
 // The lowest duty with a slice that is not whole, or how many duties there are.

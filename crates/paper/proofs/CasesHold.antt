@@ -26,14 +26,14 @@ use Rattle.paper.specs.Wanted.{dutiesOf, badRange, inRange, taken}
 use Rattle.paper.specs.Builder.{plan, planAt, badSlice}
 use Rattle.paper.specs.Text.{planText, printLine, decimalIn}
 use Rattle.paper.specs.Cases.{Case, Says, prints, p1Text, LoadsThen, pieces, outcome, Holds, p1, p2, p3, p4, p5, p6, p7, p8, p9, p10}
-use Rattle.paper.specs.Cases.{cases, caseAt}
+use Rattle.paper.specs.Cases.{outcomeFor, HoldsFor, cases, caseAt}
 use Rattle.paper.proofs.Links.{Closed}
 use Rattle.paper.proofs.Loads.{later, loads-more, loads-closed, later-is}
 
 -- ---- the tables
 
 -- a set's table, by its block length and its runs
-abbrev tableFor : Case → ℕ → List Run → Table
+abbrev pub tableFor : Case → ℕ → List Run → Table
 tableFor c t xs = record { ticks = t; engines = c .engines; duties = c .duties; runs = xs }
 
 abbrev t1 : Table
@@ -72,7 +72,7 @@ not-made = (refl, refl, refl)
 -- ---- their loads
 
 -- nothing is chained to the last row; the first block has a loads, and the second adds b
-abbrev FirstTwo : Table → ℕ → ℕ → Type 0
+abbrev pub FirstTwo : Table → ℕ → ℕ → Type 0
 FirstTwo t a b = Closed t × (loads t 1 ≡ a) × (loads t 2 ≡ a + b)
 
 first-two : FirstTwo t1 4 3 × FirstTwo t2 1 0 × FirstTwo t3 2 2 × FirstTwo t6 2 1 × FirstTwo t8 10 8
@@ -86,7 +86,7 @@ first-two = (
 )
 
 -- so every later block has the loads that the second adds
-loads-then : (t : Table) (a b : ℕ) → FirstTwo t a b → LoadsThen t a b
+pub loads-then : (t : Table) (a b : ℕ) → FirstTwo t a b → LoadsThen t a b
 loads-then t a b f = (f .1, more)
   where
     more : (n : ℕ) → loads t (n + 2) ≡ loads t (n + 1) + b
@@ -105,8 +105,8 @@ over8 =
 -- ---- all that is stated
 
 -- what is stated of a set holds where it holds of the table that the builder makes
-planned : (c : Case) (t : Table) → outcome c ≡ answer t → Each (Says (answer t)) (c .facts) → Holds c
-planned c t e h = rw e h
+pub planned : (wish : ℕ) (c : Case) (t : Table) → outcomeFor wish c ≡ answer t → Each (Says (answer t)) (c .facts) → HoldsFor wish c
+planned wish c t e h = rw e h
 
 -- P1's printed plan, byte by byte
 printed1 : Says (answer t1) (prints p1Text)
@@ -116,30 +116,30 @@ printed1 = refl
 
 hold1 : Holds p1
 unfolding chainsBelow chainLength sumTo firstOf link heldIn covers same walk rowAt nextOf
-hold1 = planned p1 t1 (made .0) (refl, (refl, (refl, (refl, (refl, (loads-then t1 4 3 (first-two .0), (printed1, (refl, (refl, tt)))))))))
+hold1 = planned 0 p1 t1 (made .0) (refl, (refl, (refl, (refl, (refl, (loads-then t1 4 3 (first-two .0), (printed1, (refl, (refl, tt)))))))))
 
 hold2 : Holds p2
 unfolding encode headBytes dutyBytes runBytes endBytes flat digits
-hold2 = planned p2 t2 (made .1) (loads-then t2 1 0 (first-two .1), (refl, tt))
+hold2 = planned 0 p2 t2 (made .1) (loads-then t2 1 0 (first-two .1), (refl, tt))
 
 hold3 : Holds p3
-hold3 = planned p3 t3 (made .2) (loads-then t3 2 2 (first-two .2), tt)
+hold3 = planned 0 p3 t3 (made .2) (loads-then t3 2 2 (first-two .2), tt)
 
 hold6 : Holds p6
 unfolding chainsBelow chainLength sumTo firstOf link heldIn covers same
-hold6 = planned p6 t6 (made .3) (refl, (refl, (loads-then t6 2 1 (first-two .3), tt)))
+hold6 = planned 0 p6 t6 (made .3) (refl, (refl, (loads-then t6 2 1 (first-two .3), tt)))
 
 hold7 : Holds p7
 unfolding pieces walk rowAt nextOf firstOf link heldIn covers same
-hold7 = planned p7 t7 (made .4) (refl, (refl, (refl, tt)))
+hold7 = planned 0 p7 t7 (made .4) (refl, (refl, (refl, tt)))
 
 hold8 : Holds p8
 unfolding chainsBelow chainLength sumTo firstOf link heldIn covers same slice
-hold8 = planned p8 t8 (made .5) (refl, (refl, (refl, (loads-then t8 10 8 (first-two .4), (over8, tt)))))
+hold8 = planned 0 p8 t8 (made .5) (refl, (refl, (refl, (loads-then t8 10 8 (first-two .4), (over8, tt)))))
 
 hold9 : Holds p9
 unfolding chainsBelow chainLength sumTo firstOf link heldIn covers same rowAt nextOf tab
-hold9 = planned p9 t9 (made .6) (refl, (refl, tt))
+hold9 = planned 0 p9 t9 (made .6) (refl, (refl, tt))
 
 -- case by case
 cases-each : Each Holds cases

@@ -1,5 +1,5 @@
--- The cases P1 to P10, and what they and code need of the definitions: outcomes and tests, the rotation, what holds a unit, loads, what is
--- asked.
+-- The cases P1 to P10 and those of a wanted block length, and what they and code need of the definitions: outcomes and tests, the rotation,
+-- what holds a unit, loads, what is asked.
 pub mod Outcomes
 pub mod Passed
 pub mod Rotation
@@ -8,3 +8,4 @@ pub mod Links
 pub mod Loads
 pub mod Calls
 pub mod CasesHold
+pub mod LengthCasesHold

@@ -91,13 +91,19 @@ pub record Case : Type 0 where
   pub duties : List Duty
   pub facts : List Fact
 
--- what the builder makes of a set
-abbrev pub outcome : Case → Outcome Table
-outcome c = plan (wantedOf (c .engines) (c .duties))
+-- what the builder makes of a set with a wanted block length, and with none
+abbrev pub outcomeFor : ℕ → Case → Outcome Table
+outcomeFor wish c = plan wish (wantedOf (c .engines) (c .duties))
 
--- all that is stated of a set holds
+abbrev pub outcome : Case → Outcome Table
+outcome c = outcomeFor 0 c
+
+-- all that is stated of a set holds, with a wanted block length, and with none
+abbrev pub HoldsFor : ℕ → Case → Type 0
+HoldsFor wish c = Each (Says (outcomeFor wish c)) (c .facts)
+
 abbrev pub Holds : Case → Type 0
-Holds c = Each (Says (outcome c)) (c .facts)
+Holds c = HoldsFor 0 c
 
 -- ---- the table
 

@@ -65,8 +65,8 @@ stateIn l = record { block = getD l 0 0; rows = tab mostEngines (λ e. row (getD
 -- ---- the calls
 
 -- the builder: the table's bytes; its answer is their number
-abbrev pub buildCall : Wanted → List ℕ → List ℕ → Outcome (List ℕ)
-buildCall x table lent = needing wordRoom lent (build x (length table))
+abbrev pub buildCall : ℕ → Wanted → List ℕ → List ℕ → Outcome (List ℕ)
+buildCall wish x table lent = needing wordRoom lent (build wish x (length table))
 
 abbrev pub buildEntries : Outcome (List ℕ) → Outcome (List ℕ)
 buildEntries o = entries (λ w. length w ∷ []) o

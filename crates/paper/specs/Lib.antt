@@ -1,7 +1,7 @@
 -- Document 01 in its order: ranges and lengths, duties and engines, the words of a plan, SA1, the rotation; what a schedule is, and the
 -- walk; outcomes and how answers read, the table's bytes; what is wanted and refusals 1 to 5, the builder, the rules of the judge and the
 -- same as plain statements, what is asked of a table; the program's text. Document 02's request 3: SA2, and its plans of shares. The
--- outside face; and the cases.
+-- outside face; and the cases: document 01's, request 6's, request 3's.
 pub mod Limits
 pub mod Duties
 pub mod Words
@@ -21,4 +21,5 @@ pub mod Sa2
 pub mod Shares
 pub mod Face
 pub mod Cases
+pub mod LengthCases
 pub mod ShareCases

@@ -9,7 +9,7 @@ use Rattle.laws.specs.Search.{first, any}
 use Rattle.paper.specs.declared.Run.{Run}
 use Rattle.paper.specs.declared.Reading.{Reading}
 use Rattle.paper.specs.Duties.{dutyAt}
-use Rattle.paper.specs.Words.{stop, slice, blockLengthOf, Table, runAt}
+use Rattle.paper.specs.Words.{stop, slice, undivided, Table, runAt}
 use Rattle.paper.specs.Outcome.{Outcome, refused, answer, andThen}
 use Rattle.paper.specs.Bytes.{readTable}
 use Rattle.paper.specs.Builder.{badSlice}
@@ -70,10 +70,10 @@ judgeRuns t =
     (fault 16 (lowest twice (t .runs)) (length (t .runs))
     (fault 17 (badSum t) (length (t .duties)) (answer t)))))
 
--- 11 "T is not the greatest common divisor of the periods", 12 "a slice in the table not whole"
+-- 11 "now means that T does not divide every period", 12 "a slice in the table not whole"
 unfoldable pub judgeDuties : Table → Outcome Table
 judgeDuties t =
-    pick (not (eqb (t .ticks) (blockLengthOf (t .duties)))) (refused 11 0)
+    pick (undivided (t .ticks) (t .duties)) (refused 11 0)
     (fault 12 (badSlice (t .ticks) (t .duties)) (length (t .duties)) (answer t))
 
 -- 11 to 17

@@ -2,11 +2,12 @@
 use Prim.Native.Nat.{ℕ, _+_, _*_, _≤_, _<_, _∣_}
 use mathlib.Core.Path.{_≡_}
 use mathlib.Core.Bool.{true}
+use mathlib.Core.List.{List}
 use lib.ListN.{length}
 use Rattle.paper.specs.declared.Duty.{Duty}
 use Rattle.paper.specs.declared.Run.{Run}
 use Rattle.paper.specs.Duties.{dutyAt}
-use Rattle.paper.specs.Words.{stop, slice, blockLengthOf, Table, runAt}
+use Rattle.paper.specs.Words.{stop, slice, Table, runAt}
 use Rattle.paper.specs.Limits.{Width, mostTicks}
 use Rattle.paper.specs.Rules.{before, unitsOf}
 
@@ -44,10 +45,14 @@ Has x u = (x .first ≤ u) × (u < stop x)
 abbrev pub Apart : Run → Run → Type 0
 Apart x y = (u : ℕ) → Has x u → Has y u → ⊥
 
+-- t is a "common divisor of all periods"
+abbrev pub CommonDivisor : ℕ → List Duty → Type 0
+CommonDivisor t ds = (i : ℕ) → i < length ds → t ∣ dutyAt ds i .period
+
 -- rules 11 to 17
 pub record Meets (t : Table) : Type 0 where
-  -- 11: T is the greatest common divisor of the periods
-  pub block-length : t .ticks ≡ blockLengthOf (t .duties)
+  -- 11: T divides every period
+  pub block-length : CommonDivisor (t .ticks) (t .duties)
   -- 12: every slice is whole
   pub slices-whole : (i : ℕ) → i < length (t .duties) → dutyAt (t .duties) i .period ∣ t .ticks * dutyAt (t .duties) i .service
   -- 13: every run is after its forerunner by (row, first unit)

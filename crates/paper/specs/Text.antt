@@ -189,6 +189,6 @@ abbrev pub printed : Outcome Table → List ℕ
 printed (refused n p) = printLine refusedWord (n ∷ p ∷ [])
 printed (answer t) = planText t
 
--- the program: from what it reads to what it prints; "the program looks for 9 before all others"
+-- the program: from what it reads to what it prints; "the program looks for 9 before all others". Its input names no block length: 0
 abbrev pub program : List ℕ → List ℕ
-program b = printed (andThen (input b) plan)
+program b = printed (andThen (input b) (plan 0))

@@ -1,18 +1,19 @@
 -- Document 01, "Words", what a plan is made of: block, unit, slice, row, run, table. (004 counts units, engines and duties from 1. We count
 -- from 0.)
-use Prim.Native.Nat.{ℕ, _+_, _*_, _/_, _%_}
-use mathlib.Core.Bool.{Bool, _&&_}
+use Prim.Native.Nat.{ℕ, _+_, _*_, _/_}
+use mathlib.Core.Bool.{Bool, not, _&&_}
 use mathlib.Core.List.{List, [], _∷_, map}
 use lib.Dec.{leb, ltb, eqb}
-use lib.ListN.{getD}
+use lib.ListN.{length, getD}
 use Rattle.laws.specs.Choice.{pick}
-use Rattle.laws.specs.Divisor.{gcdOf}
+use Rattle.laws.specs.Search.{any}
+use Rattle.laws.specs.Divisor.{divides, gcdOf}
 use Rattle.paper.specs.declared.Row.{Row}
 use Rattle.paper.specs.declared.Duty.{Duty}
 use Rattle.paper.specs.declared.Run.{Run}
 use Rattle.paper.specs.declared.Held.{Held}
 use Rattle.paper.specs.declared.Held.the-variants.{Idle, By}
-use Rattle.paper.specs.Duties.{periodsOf}
+use Rattle.paper.specs.Duties.{dutyAt, periodsOf}
 
 -- the row of a number
 abbrev pub row : ℕ → Row
@@ -22,9 +23,14 @@ row n = record { 0 = n }
 abbrev pub rowNumbers : List Row → List ℕ
 rowNumbers rs = map (λ r. r .0) rs
 
--- "The block length T is the greatest common divisor of all periods."
+-- "The block length T is the greatest common divisor of all periods." Since document 02's request 6 that is the block length of a plan of
+-- shares, and of a table where no other is wanted
 unfoldable pub blockLengthOf : List Duty → ℕ
 blockLengthOf ds = gcdOf (periodsOf ds)
+
+-- "T in a table is then any common divisor of all periods": whether "T does not divide every period"
+abbrev pub undivided : ℕ → List Duty → Bool
+undivided t ds = any (λ i. not (divides t (dutyAt ds i .period))) (length ds)
 
 -- "The slice N of a duty is T·C/D."
 unfoldable pub slice : ℕ → Duty → ℕ
@@ -32,7 +38,7 @@ slice t x = t * x .service / x .period
 
 -- "It must be whole, that is, D/T divides C": D divides T·C
 unfoldable pub whole : ℕ → Duty → Bool
-whole t x = eqb (t * x .service % x .period) 0
+whole t x = divides (x .period) (t * x .service)
 
 -- "A run is a stretch of units on one row given to one duty": row, duty, first unit, length
 abbrev pub run : ℕ → ℕ → ℕ → ℕ → Run

@@ -21,27 +21,27 @@ use Rattle.plan_laws.proofs.Planned.{planned-ranged, WhenBuilt, not-planned, to
 use Rattle.line_print.proofs.Line.{puts-fits}
 use Rattle.plan_text.proofs.Fitting.{front-is}
 
-module _ (x : Wanted) {r : Written} {l xs : List ℕ} (w : Writes (build x mostTable) r l xs) where
+module _ (x : Wanted) {r : Written} {l xs : List ℕ} (w : Writes (build 0 x mostTable) r l xs) where
   -- what is built is within the buffer, and cut to the length that is told it is accepted as the plan
-  pub built-bytes : {size : ℕ} → r ≡ Length size → (size ≤ length xs) × (accepted (take size xs) ≡ plan x)
+  pub built-bytes : {size : ℕ} → r ≡ Length size → (size ≤ length xs) × (accepted (take size xs) ≡ plan 0 x)
   built-bytes {size} told =
-      let whole = then-answer (build x mostTable) (λ b. answer (length b)) size (sym (w .said) ∙ ap writtenAs told) in
+      let whole = then-answer (build 0 x mostTable) (λ b. answer (length b)) size (sym (w .said) ∙ ap writtenAs told) in
       let bytes = whole .0 in
       let long = sym (answer-one (length bytes) size (whole .2)) in
       let laid = w .left ∙ ap (λ o. leaves o l) (whole .1) in
       let front = front-is size bytes l xs long laid in
-      let plans = built x mostTable bytes (whole .1) .plans in
-      (puts-fits bytes l xs size (long, laid), ap accepted front ∙ built-accepted x mostTable bytes (whole .1) ∙ sym plans)
+      let plans = built 0 x mostTable bytes (whole .1) .plans in
+      (puts-fits bytes l xs size (long, laid), ap accepted front ∙ built-accepted 0 x mostTable bytes (whole .1) ∙ sym plans)
 
   -- a refusal is the plan's: every table has room
-  pub built-refused : {why : Refusal} → r ≡ Refused why → plan x ≡ refusedAs why
+  pub built-refused : {why : Refusal} → r ≡ Refused why → plan 0 x ≡ refusedAs why
   built-refused {why} told =
-      go (built-when x mostTable (refusedAs why) .0
-      (then-refused (build x mostTable) length (why .number) (why .place) (sym (w .said) ∙ ap writtenAs told)))
+      go (built-when 0 x mostTable (refusedAs why) .0
+      (then-refused (build 0 x mostTable) length (why .number) (why .place) (sym (w .said) ∙ ap writtenAs told)))
     where
-      go : WhenBuilt x mostTable (refusedAs why) → plan x ≡ refusedAs why
+      go : WhenBuilt 0 x mostTable (refusedAs why) → plan 0 x ≡ refusedAs why
       go (not-planned n p h q) = let z = refused-one (why .number) (why .place) n p q in rw (z .0, z .1) h
       go (too-short t h m q) =
-          let g = planned-ranged x t h in
+          let g = planned-ranged 0 x t h in
           absurd (omega (arith, m, length-encode small t, g .duties-most, g .runs-most))
       go (written t h m q) = answered (encode small t) (why .number) (why .place) (sym q)

@@ -17,6 +17,6 @@ puts-as {W} {W′} {xs} {n} l e h = subst (λ w. Puts w l xs n) e h
 
 -- by the verdict on what was read, the program prints the plan of it or the refusal
 pub program-is : (b : List ℕ) {r : InputRead} {v : Verdict} → r ≡ inputRead (input b) → r .verdict ≡ v
-    → printed (andThen (verdictAs v (wantedIn (r .input))) plan) ≡ program b
+    → printed (andThen (verdictAs v (wantedIn (r .input))) (plan 0)) ≡ program b
 program-is b {r} {v} e q =
-    ap (λ o. printed (andThen o plan)) (ap (λ u. verdictAs u (wantedIn (r .input))) (sym q) ∙ ap told e ∙ read-told b)
+    ap (λ o. printed (andThen o (plan 0))) (ap (λ u. verdictAs u (wantedIn (r .input))) (sym q) ∙ ap told e ∙ read-told b)

@@ -35,17 +35,18 @@ fn print_plan(out: &mut [u8], table: &[u8]) -> usize
     }
 }
 
-// The plan of what was read, or the builder's refusal. Every table has room in as many bytes as the longest has.
+// The plan of what was read, in blocks of the greatest length, or the builder's refusal. Every table has room in as many bytes as the
+// longest has.
 fn print_planned(out: &mut [u8], given: Input) -> usize
     requires { ⌜ textRoom ≤ length (now out) ⌝ }
     requires { ⌜ HasRoom given ⌝ }
-    ensures { λ r. ⌜ Puts (printed (plan (wantedIn given))) (now (out .entry)) (now (out .exit)) r ⌝ }
+    ensures { λ r. ⌜ Puts (printed (plan 0 (wantedIn given))) (now (out .entry)) (now (out .exit)) r ⌝ }
 {
     let n = given.duties as usize;
     let services = given.services;
     let periods = given.periods;
     let mut table = [0; MOST_TABLE];
-    match build(given.engines, &services[..n], &periods[..n], &mut table) {
+    match build(0, given.engines, &services[..n], &periods[..n], &mut table) {
         Written::Length(size) => print_plan(out, &table[..size]),
         Written::Refused(why) => print_refused(out, why),
     }

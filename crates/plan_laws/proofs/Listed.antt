@@ -1,5 +1,5 @@
--- Each call comes to an answer or to a refusal whose number document 01 lists for that call, and whose place is within the bound on places:
--- it is a duty, a run or a line, of which there are few, or an offset or a length within a table of few duties and runs.
+-- Each call comes to an answer or to a refusal whose number the documents list for that call, and whose place is within the bound on
+-- places: it is a duty, a run or a line, of which there are few, or an offset or a length within a table of few duties and runs.
 -- Assumes nothing.
 use Prim.Native.Nat.{ℕ, _+_, _*_, _-_, _^_, _≤_, _<_}
 use mathlib.Core.Path.{_≡_, refl, sym, ap}
@@ -16,13 +16,13 @@ use Rattle.laws.proofs.Search.{first-le}
 use Rattle.laws.proofs.Cases.{and-right}
 use Rattle.paper.specs.declared.Engine.{Engine}
 use Rattle.paper.specs.declared.Duty.{Duty}
-use Rattle.paper.specs.Words.{Table, blockLengthOf}
+use Rattle.paper.specs.Words.{Table, undivided}
 use Rattle.paper.specs.Limits.{mostPlace, small, endLength, mostBlocks, lastBlock, mostDuties, mostInput}
 use Rattle.paper.specs.Outcome.{Outcome, refused, answer, andThen}
 use Rattle.paper.specs.Bytes.{encode, runPlace, dutyPlace, dutiesIn, headGood, endGood, runGood, badDuty, goodRuns, tableIn, afterRuns}
 use Rattle.paper.specs.Bytes.{afterHead, parse}
 use Rattle.paper.specs.Wanted.{Wanted, wantedOf, dutySet, taken}
-use Rattle.paper.specs.Builder.{badSlice, planAt, plan, fitted, build}
+use Rattle.paper.specs.Builder.{planFor, badSlice, planAt, plan, fitted, build}
 use Rattle.paper.specs.declared.State.{State}
 use Rattle.paper.specs.Answers.{stateAt, isState, question, start, rowTold, advanced, counted}
 use Rattle.paper.specs.Rotation.{link}
@@ -122,7 +122,7 @@ duties-listed : (t : Table) → Ranged small t → Listed (From 10 17) (judgeDut
 unfolding judgeDuties
 duties-listed t r =
     let P = From 10 17 in
-    listed-pick P (not (eqb (t .ticks) (blockLengthOf (t .duties)))) _ _
+    listed-pick P (undivided (t .ticks) (t .duties)) _ _
     (λ h. listed-refused P 11 0 (omega arith) (omega arith) (omega arith))
     (λ h. listed-fault P 12 (badSlice (t .ticks) (t .duties)) (length (t .duties)) _ (omega arith) (omega arith)
     (omega (arith, r .duties-most))
@@ -178,33 +178,37 @@ taken-listed x n p e = go (taken-when x (refused n p) .0 e)
     go (service-out d q c l f) = told 5 d (omega arith) (low d c (l .0)) q
     go (all-taken q c) = answered (dutySet x) n p (sym q)
 
--- 6 and 7 for a plan of few duties
-plan-at-listed : (t m : ℕ) (ds : List Duty) → length ds ≤ mostPlace → Listed (From 1 7) (planAt t m ds)
+-- 1 to 8 and 24
+abbrev pub BuildNumber : ℕ → Type 0
+BuildNumber n = From 1 8 n ⊎ (n ≡ 24)
+
+-- 24, 6 and 7 for a plan of few duties
+plan-for-listed : (t m : ℕ) (ds : List Duty) → length ds ≤ mostPlace → Listed BuildNumber (planFor t m ds)
 unfolding planAt
-plan-at-listed t m ds few =
-    let P = From 1 7 in
-    listed-fault P 6 (badSlice t ds) (length ds) _ (omega arith) (omega arith) few
-    (listed-pick P (ltb (m * t) (sumOf (slices t ds))) _ _ (λ h. listed-refused P 7 0 (omega arith) (omega arith) (omega arith))
-    (λ h. listed-answer P _))
+plan-for-listed t m ds few =
+    listed-pick BuildNumber (undivided t ds) _ _ (λ h. listed-refused BuildNumber 24 0 (inr refl) (omega arith) (omega arith))
+    (λ h. listed-fault BuildNumber 6 (badSlice t ds) (length ds) _ (inl (omega arith)) (omega arith) few
+    (listed-pick BuildNumber (ltb (m * t) (sumOf (slices t ds))) _ _
+    (λ k. listed-refused BuildNumber 7 0 (inl (omega arith)) (omega arith) (omega arith))
+    (λ k. listed-answer BuildNumber _)))
 
-plan-listed : (x : Wanted) → Listed (From 1 7) (plan x)
+plan-listed : (wish : ℕ) (x : Wanted) → Listed BuildNumber (plan wish x)
 unfolding plan
-plan-listed x =
-    listed-then (From 1 7) (taken x) _ (listed-more (λ n l. omega arith) (taken x) (taken-listed x))
+plan-listed wish x =
+    listed-then BuildNumber (taken x) _ (listed-more (λ n l. inl (omega arith)) (taken x) (taken-listed x))
     (λ ds e. let z = taken-told x ds e in
-    plan-at-listed _ _ ds (omega (arith, ap length (z .1), z .0 .counts .duties, length-duties (x .services) (x .periods))))
+    plan-for-listed _ _ ds (omega (arith, ap length (z .1), z .0 .counts .duties, length-duties (x .services) (x .periods))))
 
--- 1 to 8 for its bytes
-pub build-listed : (x : Wanted) (room : ℕ) → Listed (From 1 8) (build x room)
-build-listed x room =
-    let P = From 1 8 in
-    listed-then P (plan x) _ (listed-more (λ n l. omega arith) (plan x) (plan-listed x))
+-- 8 besides for its bytes
+pub build-listed : (wish : ℕ) (x : Wanted) (room : ℕ) → Listed BuildNumber (build wish x room)
+build-listed wish x room =
+    listed-then BuildNumber (plan wish x) _ (plan-listed wish x)
     (λ t e.
-    let r = planned-ranged x t e in
-    listed-pick P (ltb room (length (encode small t))) _ _
-    (λ h. listed-refused P 8 (length (encode small t)) (omega arith) (omega arith)
+    let r = planned-ranged wish x t e in
+    listed-pick BuildNumber (ltb room (length (encode small t))) _ _
+    (λ h. listed-refused BuildNumber 8 (length (encode small t)) (inl (omega arith)) (omega arith)
     (omega (arith, length-encode small t, r .duties-most, r .runs-most)))
-    (λ h. listed-answer P (encode small t)))
+    (λ h. listed-answer BuildNumber (encode small t)))
 
 -- ---- what is asked of a table
 

@@ -7,7 +7,7 @@ use mathlib.Core.Path.{_≡_, sym, ap, _∙_}
 use mathlib.Core.Bool.{true}
 use mathlib.Core.List.{List}
 use native.Mathlib.Nat.{le-div-iff-mul-le, div-le-of-le-mul, le-of-dvd, mul-pos, mul-le-mul-left, lt-of-mul-lt-mul-right, mul-zero}
-use native.Mathlib.Nat.{zero-add}
+use native.Mathlib.Nat.{zero-add, pos-of-dvd-of-pos}
 use native.Mathlib.Omega.{arith}
 use lib.ListN.{length, getD, length-map, List·getD-map}
 use Rattle.laws.specs.Choice.{one-if}
@@ -18,11 +18,11 @@ use Rattle.laws.proofs.Each.{Each, each-at, at-each, each-of-map, pairs-at}
 use Rattle.paper.specs.declared.Duty.{Duty}
 use Rattle.paper.specs.declared.Run.{Run}
 use Rattle.paper.specs.Duties.{duty, dutyAt}
-use Rattle.paper.specs.Words.{run, stop, slice, blockLengthOf, runAt}
+use Rattle.paper.specs.Words.{run, stop, slice, runAt}
 use Rattle.paper.specs.Sa1.{lay, slices, sa1}
 use Rattle.paper.specs.Limits.{Width, mostTicks}
 use Rattle.paper.specs.Rules.{before, unitsOf}
-use Rattle.paper.specs.Statements.{DutyRanged, RunRanged, Ranged, Apart, Meets}
+use Rattle.paper.specs.Statements.{DutyRanged, RunRanged, Ranged, Apart, CommonDivisor, Meets}
 use Rattle.paper.proofs.Passed.{Ranges}
 use Rattle.table_laws.proofs.Rules.{InOrder, NotJoined, Wholes, before-when}
 use Rattle.paper.proofs.Holding.{RowsApart}
@@ -37,10 +37,11 @@ slice-bounds t x a d w = (
   div-le-of-le-mul (x .period) (omega (arith, mul-le-mul-left t (d .service-most))),
 )
 
--- a T that divides the periods is no longer than the longest period may be
-pub ticks-within :
-    (t : ℕ) (ds : List Duty) → 1 ≤ length ds → Ranges ds
-    → ((i : ℕ) → i < length ds → t ∣ dutyAt ds i .period) → t ≤ mostTicks
+-- a T that divides the periods is above 0, and no longer than the longest period may be
+pub ticks-some : (t : ℕ) (ds : List Duty) → 1 ≤ length ds → Ranges ds → CommonDivisor t ds → 1 ≤ t
+ticks-some t ds a r d = pos-of-dvd-of-pos (d 0 a) (r 0 a .period-least)
+
+pub ticks-within : (t : ℕ) (ds : List Duty) → 1 ≤ length ds → Ranges ds → CommonDivisor t ds → t ≤ mostTicks
 ticks-within t ds a r d = omega (arith, r 0 a, le-of-dvd (r 0 a .period-least) (d 0 a))
 
 -- what the builder has made sure of: everything in range, the slices whole, and no more of them than the engines have units
@@ -160,12 +161,12 @@ module _ (w : Width) (t m : ℕ) (ds : List Duty) (f : Fits w t m ds) where
   unfolding sa1
   sa1-sums i h = units-laid t (slices t ds) 0 0 0 i i (f .ticks-least) all-slices (zero-add i) ∙ slices-at t ds i
 
-  -- all rules, where T is the block length
-  pub sa1-meets : t ≡ blockLengthOf ds → Meets (sa1 t m ds)
+  -- all rules, where T divides every period
+  pub sa1-meets : CommonDivisor t ds → Meets (sa1 t m ds)
   unfolding sa1
-  sa1-meets e =
+  sa1-meets c =
       record {
-        block-length = e;
+        block-length = c;
         slices-whole = f .slices-whole;
         in-order = sa1-in-order;
         apart-in-row = sa1-apart-in-row;

@@ -1,7 +1,9 @@
-// Arithmetic of a plan: a number's and a duty's ranges, and why a duty is out of range; the greatest common divisor; a duty's share.
+// Arithmetic of a plan: a number's and a duty's ranges, and why a duty is out of range; the greatest common divisor, and the block length
+// that is meant; a duty's share.
 ghost use mathlib.Core.Path.{_≡_};
 ghost use mathlib.Core.List.{List};
 ghost use Prim.Native.Nat.{_*_, _/_, _%_, _≤_, _<_};
+ghost use lib.Dec.{eqb};
 ghost use Rattle.laws.specs.Divisor.{gcd, gcdOf};
 ghost use Rattle.laws.specs.Choice.{pick};
 ghost use Rattle.paper.specs.declared.Duty.{Duty};
@@ -64,7 +66,7 @@ pub fn gcd_of(a: u32, b: u32) -> u32
     x
 }
 
-// The block length of a list of periods: their greatest common divisor.
+// The greatest block length for a list of periods: their greatest common divisor.
 pub fn gcd_of_all(periods: &[u32]) -> u32
     ensures { λ r. ⌜ r ≡ gcdOf (now (periods .entry)) ⌝ }
 {
@@ -75,6 +77,16 @@ pub fn gcd_of_all(periods: &[u32]) -> u32
         i += 1;
     }
     g
+}
+
+// The block length that a wish means, where the greatest is known: 0 means that one.
+pub fn length_meant(wish: u32, greatest: u32) -> u32
+    ensures { λ r. ⌜ r ≡ pick (eqb wish 0) greatest wish ⌝ }
+{
+    if wish == 0 {
+        return greatest;
+    }
+    wish
 }
 
 // T·C: it has 40 bits at the most.

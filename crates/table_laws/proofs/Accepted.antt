@@ -3,35 +3,35 @@
 -- Assumes nothing.
 use Prim.Native.Nat.{ℕ, _≤_, _<_, _∣_}
 use mathlib.Core.Path.{_≡_, sym, ap, _∙_}
-use mathlib.Core.Bool.{true, false, not}
+use mathlib.Core.Bool.{true, false}
 use mathlib.Core.List.{List, map}
 use mathlib.Core.Logic.{_↔_}
 use native.Mathlib.Omega.{arith}
-use lib.Dec.{ltb, eqb}
+use lib.Dec.{ltb}
 use lib.ListN.{length, length-map, List·getD-map}
-use borrow.Author.Tests.{eqb-true, eq-eqb, ne-eqb, not-false}
+use native.Mathlib.Nat.{dvd-refl}
 use Rattle.laws.proofs.Search.{none-clear, clear-none}
 use Rattle.laws.proofs.Decides.{eqb-decides, none-found}
-use Rattle.laws.proofs.Divisor.{gcdOf-divides}
+use Rattle.laws.proofs.Divisor.{gcdOf-common}
 use Rattle.paper.specs.declared.Duty.{Duty}
 use Rattle.paper.specs.Duties.{duty, dutyAt}
-use Rattle.paper.specs.Words.{slice, blockLengthOf, runAt, Table}
+use Rattle.paper.specs.Words.{slice, blockLengthOf, undivided, runAt, Table}
 use Rattle.paper.specs.Outcome.{refused, answer}
 use Rattle.paper.specs.Limits.{Width, small}
 use Rattle.paper.specs.Bytes.{parse, readTable}
 use Rattle.paper.specs.Builder.{badSlice}
 use Rattle.paper.specs.Rules.{fault, unordered, overlaps, joins, twice, lowest, unitsOf, badSum, badOrder, judgeRuns, judgeDuties}
 use Rattle.paper.specs.Rules.{judgeTable, accepted}
-use Rattle.paper.specs.Statements.{Ranged, Meets}
+use Rattle.paper.specs.Statements.{Ranged, CommonDivisor, Meets}
 use Rattle.table_laws.proofs.Rules.{InOrder, ordered-clear, clear-ordered, lowest-none, none-lowest, overlaps-apart, apart-overlaps}
-use Rattle.table_laws.proofs.Rules.{joins-any, not-joins, twice-apart, apart-twice, whole-decides, Wholes}
+use Rattle.table_laws.proofs.Rules.{joins-any, not-joins, twice-apart, apart-twice, divided-when, whole-decides, Wholes}
 use Rattle.paper.proofs.Outcomes.{answer-one, then-answer, past}
 
 -- ---- the judge's way down the rules
 
 -- no rule's test finds a place
 pub record Passed (t : Table) : Type 0 where
-  pub block-length : eqb (t .ticks) (blockLengthOf (t .duties)) ≡ true
+  pub block-length : undivided (t .ticks) (t .duties) ≡ false
   pub slices : ltb (badSlice (t .ticks) (t .duties)) (length (t .duties)) ≡ false
   pub order : ltb (badOrder t) (length (t .runs)) ≡ false
   pub overlap : ltb (lowest overlaps (t .runs)) (length (t .runs)) ≡ false
@@ -39,7 +39,7 @@ pub record Passed (t : Table) : Type 0 where
   pub twofold : ltb (lowest twice (t .runs)) (length (t .runs)) ≡ false
   pub sums : ltb (badSum t) (length (t .duties)) ≡ false
 
-judge-runs-passed : (t s : Table) → eqb (t .ticks) (blockLengthOf (t .duties)) ≡ true
+judge-runs-passed : (t s : Table) → undivided (t .ticks) (t .duties) ≡ false
     → ltb (badSlice (t .ticks) (t .duties)) (length (t .duties)) ≡ false → judgeRuns t ≡ answer s → Passed t × (s ≡ t)
 unfolding judgeRuns
 judge-runs-passed t s h11 h12 h =
@@ -55,17 +55,17 @@ judge-runs-passed t s h11 h12 h =
 
 -- 11 and 12 hand on the very table that they are asked of
 record DutiesPassed (t s : Table) : Type 0 where
-  block-length : eqb (t .ticks) (blockLengthOf (t .duties)) ≡ true
+  block-length : undivided (t .ticks) (t .duties) ≡ false
   slices : ltb (badSlice (t .ticks) (t .duties)) (length (t .duties)) ≡ false
   same : s ≡ t
 
 duties-passed : (t s : Table) → judgeDuties t ≡ answer s → DutiesPassed t s
 unfolding judgeDuties
 duties-passed t s h =
-    let h11 = past (not (eqb (t .ticks) (blockLengthOf (t .duties)))) 11 0 _ s h in
+    let h11 = past (undivided (t .ticks) (t .duties)) 11 0 _ s h in
     let h12 = past (ltb (badSlice (t .ticks) (t .duties)) (length (t .duties))) 12 (badSlice (t .ticks) (t .duties)) _ s (h11 .1) in
     record {
-      block-length = not-false (eqb (t .ticks) (blockLengthOf (t .duties))) (h11 .0);
+      block-length = h11 .0;
       slices = h12 .0;
       same = sym (answer-one t s (h12 .1));
     }
@@ -119,7 +119,7 @@ passed-meets : (t : Table) → Long t → Passed t → Meets t
 passed-meets t long p =
     let xs = t .runs in
     record {
-      block-length = eqb-true (t .ticks) (blockLengthOf (t .duties)) (p .block-length);
+      block-length = divided-when (t .ticks) (t .duties) .0 (p .block-length);
       slices-whole = slices-met (t .ticks) (t .duties) .0 (p .slices);
       in-order = order-met t .0 (p .order);
       apart-in-row = λ j k l h. overlaps-apart (runAt xs j) (runAt xs k) (lowest-none overlaps xs (p .overlap) j k l h);
@@ -132,7 +132,7 @@ meets-passed : (t : Table) → Long t → Meets t → Passed t
 meets-passed t long m =
     let xs = t .runs in
     record {
-      block-length = eq-eqb (t .ticks) (blockLengthOf (t .duties)) (m .block-length);
+      block-length = divided-when (t .ticks) (t .duties) .1 (m .block-length);
       slices = slices-met (t .ticks) (t .duties) .1 (m .slices-whole);
       order = order-met t .1 (m .in-order);
       overlap = none-lowest overlaps xs
@@ -171,14 +171,14 @@ unfolding accepted
 read-judged b e = rw e
 
 -- 11, and what is left where it is met
-pub length-wrong : (t : Table) → (t .ticks ≡ blockLengthOf (t .duties) → ⊥) → judgeDuties t ≡ refused 11 0
+pub length-wrong : (t : Table) → undivided (t .ticks) (t .duties) ≡ true → judgeDuties t ≡ refused 11 0
 unfolding judgeDuties
-length-wrong t n = rw (ne-eqb (t .ticks) (blockLengthOf (t .duties)) n)
+length-wrong t h = rw h
 
-pub length-right : (t : Table) → t .ticks ≡ blockLengthOf (t .duties)
+pub length-right : (t : Table) → undivided (t .ticks) (t .duties) ≡ false
     → judgeDuties t ≡ fault 12 (badSlice (t .ticks) (t .duties)) (length (t .duties)) (answer t)
 unfolding judgeDuties
-length-right t e = rw (eq-eqb (t .ticks) (blockLengthOf (t .duties)) e)
+length-right t h = rw h
 
 -- the rules of the duties, then those of the runs
 pub duties-refuse : (t : Table) {n p : ℕ} → judgeDuties t ≡ refused n p → judgeTable t ≡ refused n p
@@ -191,14 +191,22 @@ duties-pass t s e = rw e (ap judgeRuns (duties-same t s e))
 
 -- ---- the block length
 
--- it divides every period
-pub block-divides : (ds : List Duty) (i : ℕ) → i < length ds → blockLengthOf ds ∣ dutyAt ds i .period
+-- the common divisors of all periods are the divisors of the greatest
+pub common-when : (t : ℕ) (ds : List Duty) → (t ∣ blockLengthOf ds) ↔ CommonDivisor t ds
 unfolding blockLengthOf
-block-divides ds i h =
-    let ps = map (λ (x : Duty). x .period) ds in
-    let d = gcdOf-divides ps i (rw (length-map ds (λ (x : Duty). x .period)) h) in
-    rw (List·getD-map (λ (x : Duty). x .period) ds i (duty 0 0)) at d
+common-when t ds = (
+  (λ h i l. rw (List·getD-map period ds i (duty 0 0)) at (gcdOf-common (map period ds) t .0 h i (rw (length-map ds period) l))),
+  (λ c. gcdOf-common (map period ds) t .1
+      (λ i l. rw (List·getD-map period ds i (duty 0 0)) (c i (rw (length-map ds period) at l)))),
+)
+  where
+    period : Duty → ℕ
+    period x = x .period
 
--- so T does. What is proved of accepted tables uses this alone of rule 11
-pub ticks-divides : (t : Table) → Meets t → (i : ℕ) → i < length (t .duties) → t .ticks ∣ dutyAt (t .duties) i .period
-ticks-divides t m i h = rw (m .block-length) (block-divides (t .duties) i h)
+-- so the greatest divides every period
+pub block-divides : (ds : List Duty) → CommonDivisor (blockLengthOf ds) ds
+block-divides ds = common-when (blockLengthOf ds) ds .0 (dvd-refl (blockLengthOf ds))
+
+-- and so does a table's T. What is proved of accepted tables uses this alone of rule 11
+pub ticks-divides : (t : Table) → Meets t → CommonDivisor (t .ticks) (t .duties)
+ticks-divides t m = m .block-length

@@ -2,11 +2,11 @@
 -- nothing says so of every index below the bound. Rule 15's test looks at earlier runs only: where 13 holds the runs stand in order,
 -- so a run of the same row that stops where this one starts is an earlier one.
 -- Assumes nothing.
-use Prim.Native.Nat.{ℕ, zero, suc, _+_, _*_, _-_, _%_, _≤_, _<_, _∣_}
+use Prim.Native.Nat.{ℕ, zero, suc, _+_, _*_, _-_, _≤_, _<_, _∣_}
 use mathlib.Core.Path.{_≡_, refl, sym, ap}
 use mathlib.Core.Bool.{Bool, true, false}
 use mathlib.Core.List.{List}
-use native.Mathlib.Nat.{dvd-of-mod-eq-zero, mod-eq-zero-of-dvd}
+use mathlib.Core.Logic.{_↔_}
 use native.Mathlib.Omega.{arith}
 use lib.Dec.{ltb, eqb}
 use lib.ListN.{length}
@@ -14,13 +14,13 @@ use borrow.Author.Tests.{ltb-true, lt-ltb, eqb-true, eqb-false, eq-eqb, ne-eqb, 
 use Rattle.laws.specs.Search.{first, any}
 use Rattle.laws.proofs.Cases.{by-cases, lt-or-le, by-order, not-both, refuted, and-left, and-right}
 use Rattle.laws.proofs.Search.{Clear, none-clear, clear-none}
-use Rattle.laws.proofs.Decides.{Decides, eqb-decides}
+use Rattle.laws.proofs.Decides.{Decides, Not, divides-decides, none-found}
 use Rattle.paper.specs.declared.Duty.{Duty}
 use Rattle.paper.specs.declared.Run.{Run}
 use Rattle.paper.specs.Duties.{dutyAt}
-use Rattle.paper.specs.Words.{stop, runAt, whole}
+use Rattle.paper.specs.Words.{stop, undivided, runAt, whole}
 use Rattle.paper.specs.Rules.{before, meet, unordered, overlaps, joins, twice, lowest}
-use Rattle.paper.specs.Statements.{Has, Apart}
+use Rattle.paper.specs.Statements.{Has, Apart, CommonDivisor}
 
 -- ---- order
 
@@ -164,12 +164,20 @@ joins-any xs o long n j k hj hk r d s =
 
 -- ---- a duty
 
+-- 11: T divides every period, or there is one that it does not divide
+pub divided-when : (t : ℕ) (ds : List Duty) → (undivided t ds ≡ false) ↔ CommonDivisor t ds
+divided-when t ds = none-found (λ i. divides-decides t (dutyAt ds i .period)) (length ds)
+
+pub undivided-when : (t : ℕ) (ds : List Duty) → (undivided t ds ≡ true) ↔ Not (CommonDivisor t ds)
+undivided-when t ds = (
+  (λ h c. not-both h (divided-when t ds .1 c)),
+  (λ n. by-cases (undivided t ds) (λ h. h) (λ h. absurd (n (divided-when t ds .0 h)))),
+)
+
 -- 12: a slice is whole exactly when the period divides T times the service
 pub whole-decides : (t : ℕ) (x : Duty) → Decides (whole t x) (x .period ∣ t * x .service)
 unfolding whole
-whole-decides t x =
-    let d = eqb-decides (t * x .service % x .period) 0 in
-    ((λ h. dvd-of-mod-eq-zero (x .period) (d .0 h)), (λ w. d .1 (mod-eq-zero-of-dvd (x .period) w)))
+whole-decides t x = divides-decides (x .period) (t * x .service)
 
 -- what 6 and 12 ask of duty i, and of all duties
 abbrev pub Whole : ℕ → List Duty → ℕ → Type 0

@@ -36,28 +36,28 @@ left-answer (refused n p) k table table′ lent e h l = answered k n p (sym e)
 left-answer (answer w) k table table′ lent e h l =
     (record { said = refl; left = stored-one k lent l ∙ ap (λ n. over (n ∷ []) lent) (sym (answer-one (length w) k e)) }, h)
 
-module _ (x : Wanted) (table : List ℕ) where
+module _ (wish : ℕ) (x : Wanted) (table : List ℕ) where
   -- a refusal of the builder has a number that fits a byte, and a place within the bound
-  pub build-fits : {table′ : List ℕ} {r : Written} {why : Refusal} → Writes (build x (length table)) r table table′ → r ≡ Refused why
+  pub build-fits : {table′ : List ℕ} {r : Written} {why : Refusal} → Writes (build wish x (length table)) r table table′ → r ≡ Refused why
       → (why .number < 256) × (why .place ≤ mostPlace)
-  build-fits w q = listed-fits (build-listed x (length table)) (refused-is w q)
+  build-fits w q = listed-fits (build-listed wish x (length table)) (refused-is w q)
 
   -- the lent answer is too short
   pub build-short : (lent : List ℕ) (word : ℕ) → length lent < wordRoom → word ≡ 255 + 256 * wordRoom
-      → Left (buildCall x table lent) word table table lent lent
+      → Left (buildCall wish x table lent) word table table lent lent
   build-short lent word h w = rw (lt-ltb (length lent) wordRoom h) (record { said = w; left = refl }, refl)
 
   -- the builder refused
   pub build-refused : {table′ : List ℕ} (lent : List ℕ) (word : ℕ) {r : Written} {why : Refusal} → wordRoom ≤ length lent
-      → Writes (build x (length table)) r table table′
-      → r ≡ Refused why → word ≡ why .number + 256 * why .place → Left (buildCall x table lent) word table table′ lent lent
+      → Writes (build wish x (length table)) r table table′
+      → r ≡ Refused why → word ≡ why .number + 256 * why .place → Left (buildCall wish x table lent) word table table′ lent lent
   build-refused lent word l w q e = let z = refused-is w q in
       rw (le-ltb (length lent) wordRoom l, z) (record { said = e; left = refl }, rw z at (w .left))
 
   -- the builder answered
   pub build-answer : {table′ : List ℕ} (lent : List ℕ) (k : ℕ) {r : Written} → wordRoom ≤ length lent
-      → Writes (build x (length table)) r table table′ → r ≡ Length k
-      → Left (buildCall x table lent) 0 table table′ lent (set lent 0 k)
+      → Writes (build wish x (length table)) r table table′ → r ≡ Length k
+      → Left (buildCall wish x table lent) 0 table table′ lent (set lent 0 k)
   build-answer lent k l w q =
       rw (le-ltb (length lent) wordRoom l)
-      (left-answer (build x (length table)) k table _ lent (sym (w .said) ∙ ap writtenAs q) (w .left) l)
+      (left-answer (build wish x (length table)) k table _ lent (sym (w .said) ∙ ap writtenAs q) (w .left) l)

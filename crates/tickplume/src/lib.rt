@@ -29,26 +29,27 @@ use paper::limits::SHARE_READING_ROOM;
 use paper::limits::STATE_ROOM;
 use paper::limits::WORD_ROOM;
 
-// SA1's plan of the duties, into the lent table.
+// SA1's plan of the duties, in blocks of the wanted length, into the lent table.
 #[no_mangle]
 pub extern "C" fn tickplume_build(
     engines: u32,
     services: &[u32],
     periods: &[u32],
+    block_length: u32,
     table: &mut [u8],
     answer: &mut [u64],
 ) -> u64
     ensures { λ r. ⌜ Tells
-        (buildEntries (buildCall (wanted engines (now (services .entry)) (now (periods .entry))) (now (table .entry))
+        (buildEntries (buildCall «block_length» (wanted engines (now (services .entry)) (now (periods .entry))) (now (table .entry))
         (now (answer .entry)))) r (now (answer .entry)) (now (answer .exit)) ⌝ }
     ensures { λ r. ⌜ now (table .exit) ≡ leaves
-        (buildCall (wanted engines (now (services .entry)) (now (periods .entry))) (now (table .entry)) (now (answer .entry)))
-        (now (table .entry)) ⌝ }
+        (buildCall «block_length» (wanted engines (now (services .entry)) (now (periods .entry))) (now (table .entry))
+        (now (answer .entry))) (now (table .entry)) ⌝ }
 {
     if answer.len() < WORD_ROOM {
         return too_short(WORD_ROOM);
     }
-    match builder::build(engines, services, periods, table) {
+    match builder::build(block_length, engines, services, periods, table) {
         Written::Refused(why) => word_of(why),
         Written::Length(length) => {
             answer[0] = length as u64;

@@ -1,52 +1,25 @@
--- `build`: what tests 1 to 5 refuse is refused; what they take is built for its block length.
+-- `build`: what tests 1 to 5 refuse is refused; what they take is built.
 -- Assumes nothing.
-use Prim.Native.Nat.{ℕ}
-use mathlib.Core.Path.{sym, ap, _∙_}
+use mathlib.Core.Path.{sym, _∙_}
 use borrow.Author.Needs.{needs}
 use lib.ListN.{length}
-use Rattle.paper.specs.Wanted.{Wanted, wanted, dutySet}
-use Rattle.paper.proofs.Outcomes.{writes-same, writes-refused}
-use Rattle.plan_laws.proofs.TakenWhen.{Taken}
-use Rattle.builder.specs.BuildAt.{buildAt}
-use Rattle.duty_lists.proofs.AfterTests.{none-applies, sliceable}
-use Rattle.builder.proofs.AfterTaken.{not-built, built-at}
+use Rattle.paper.specs.Wanted.{wanted}
+use Rattle.paper.proofs.Outcomes.{writes-refused}
+use Rattle.builder.proofs.AfterTaken.{not-built}
 use Rattle.builder.proofs.build.Statement.{statement}
 use Rattle.builder.proofs.build.Tie as tie
 
--- what is wanted, and how much room there is
-abbrev asked : tie.Start → Wanted
-asked s = wanted (s .args .engines) (s .args .services .now) (s .args .periods .now)
-
-abbrev room : tie.Start → ℕ
-room s = length (s .args .out .now)
-
--- past the tests none of 1 to 5 applies
-abbrev begun : tie.After-enum-told → tie.Start
-begun c = c .before .before .before .before .before .before
-
-takes : (c : tie.After-enum-told) → Taken (asked (begun c))
-takes c = none-applies _ _ (c .before .before .take-duties .ensures) (c .enum-told .given .1)
-
-build-fitting-requires : tie.Need-build-fitting-requires
-build-fitting-requires c κs =
-    let z = takes (c .before .before) in
-    (rw (c .before .gcd-of-all .ensures) (sliceable _ z), z .counts .engines .1)
+-- where the verdict is done, the duties are taken
+build-taken-requires : tie.Need-build-taken-requires
+build-taken-requires c κs = sym (c .before .before .before .take-duties .ensures) ∙ rw (c .before .enum-told .given .1)
 
 returns : tie.Need-returns
 returns c =
     let taking = c .before .before .before in
-    let s = taking .before .before .before .before in
-    writes-refused _ _ (not-built (asked s) _ (taking .take-duties .ensures) _ (room s) (c .before .verdict .given .1))
-
-returns-2 : tie.Need-returns-2
-returns-2 c =
-    let divisor = c .before .before .before .before in
-    let taken = divisor .before in
-    let s = begun taken in
-    let x = asked s in
-    writes-same
-    (built-at x (room s) (takes taken) ∙ ap (λ (t : ℕ). buildAt t (x .engines) (dutySet x) (room s)) (sym (divisor .gcd-of-all .ensures)))
-    (c .before .before .build-fitting .ensures)
+    let args = taking .before .before .before .before .args in
+    let x = wanted (args .engines) (args .services .now) (args .periods .now) in
+    writes-refused _ _
+    (not-built (args .wish) x _ (taking .take-duties .ensures) _ (length (args .out .now)) (c .before .verdict .given .1))
 
 pub build-spec : {M : Type 1} → statement M
 build-spec =
@@ -55,8 +28,7 @@ build-spec =
     (λ c κs. search needs)
     (λ c. search needs)
     (λ c. search needs)
-    (λ c κs. search needs)
-    build-fitting-requires
+    build-taken-requires
     returns
     (λ c. search needs)
-    returns-2)
+    (λ c. search needs))

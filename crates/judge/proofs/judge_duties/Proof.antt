@@ -1,14 +1,13 @@
 -- `judge_duties`: the block length, then the slices. Each answer goes by the tests that led to it.
 -- Assumes nothing.
 use mathlib.Core.Path.{_≡_, sym, ap, _∙_}
-use native.Mathlib.Omega.{arith}
 use lib.ListN.{length}
-use Rattle.paper.specs.Outcome.{Outcome, answer}
+use Rattle.paper.specs.Outcome.{answer}
 use Rattle.paper.specs.Words.{Table}
 use Rattle.paper.specs.Builder.{badSlice}
 use Rattle.paper.specs.Rules.{fault, judgeDuties}
 use Rattle.record_read.specs.Formed.{tableOf}
-use Rattle.record_read.proofs.Table.{table-ticks, table-duties, table-reading}
+use Rattle.record_read.proofs.Table.{table-duties, table-reading}
 use Rattle.table_laws.proofs.Accepted.{length-wrong, length-right}
 use Rattle.judge_runs.proofs.Found.{refuses, found-one, found-none}
 use borrow.Author.Needs.{needs}
@@ -21,31 +20,24 @@ table s = tableOf (s .args .b .now) (s .args .rd)
 
 returns : tie.Need-returns
 returns c =
-    let start = c .before .before .before .before in
-    let t = table (c .before .before .before .before) in
-    refuses (length-wrong t
-    (λ e. c .if1 .taken (sym (table-ticks _ _ (start .pre)) ∙ e
-    ∙ sym (c .before .before .block-length-of .ensures))))
+    let t = table (c .before .before .before) in
+    refuses (length-wrong t (sym (c .before .is-undivided .ensures) ∙ c .if1 .taken))
 
--- T is the greatest common divisor: 12 is left
-right : (c : tie.Else1) → judgeDuties (table (c .before .before .before .before))
-    ≡ fault 12 (badSlice (table (c .before .before .before .before) .ticks) (table (c .before .before .before .before) .duties))
-    (length (table (c .before .before .before .before) .duties)) (answer (table (c .before .before .before .before)))
-right c =
-    let s = c .before .before .before .before in
-    length-right (table s) (table-ticks _ _ (s .pre) ∙ c .if1 .left ∙ c .before .before .block-length-of .ensures)
+-- T divides every period: 12 is left
+right : (c : tie.Else1) → let t = table (c .before .before .before) in
+    judgeDuties t ≡ fault 12 (badSlice (t .ticks) (t .duties)) (length (t .duties)) (answer t)
+right c = length-right (table (c .before .before .before)) (sym (c .before .is-undivided .ensures) ∙ c .if1 .left)
 
 returns-2 : tie.Need-returns-2
 returns-2 c =
-    let start = c .before .before .before .before .before .before .before in
-    let duties = table-duties (start .args .b .now)
-    (start .args .rd) in
+    let start = c .before .before .before .before .before .before in
+    let duties = table-duties (start .args .b .now) (start .args .rd) in
     refuses (right (c .before .before .before) ∙ found-one 12 _ (c .before .before .bad-slice .ensures) duties (search needs))
 
 returns-3 : tie.Need-returns-3
 returns-3 c =
-    let start = c .before .before .before .before .before .before .before in
-    let rd = c .before .before .before .before .before .before .before .args .rd in
+    let start = c .before .before .before .before .before .before in
+    let rd = start .args .rd in
     let duties = table-duties (start .args .b .now) rd in
     rw (right (c .before .before .before) ∙ found-none 12 _ (c .before .before .bad-slice .ensures) duties (search needs))
     (ap answer (sym (table-reading _ rd (start .pre))))
