@@ -128,9 +128,10 @@ static void print_records(const uint8_t *bytes, uint64_t length) {
 
 static uint64_t ask_build(char **given, int count, size_t lent) {
     set_t set = set_of(given);
-    size_t room_len = count < 4 ? sizeof room : (size_t)number(given[3], sizeof room);
-    uint64_t word = tickplume_build(set.engines, set.services.entries, set.services.length, set.periods.entries, set.periods.length, room,
-                                    room_len, answer, lent);
+    uint32_t block_length = count < 4 ? 0 : number_32(given[3]);
+    size_t room_len = count < 5 ? sizeof room : (size_t)number(given[4], sizeof room);
+    uint64_t word = tickplume_build(set.engines, set.services.entries, set.services.length, set.periods.entries, set.periods.length,
+                                    block_length, room, room_len, answer, lent);
     if (!word) print_records(room, answer[0]);
     return word;
 }
@@ -250,7 +251,7 @@ typedef struct call_t {
 } call_t;
 
 static const call_t calls[] = {
-    {"build", "ENGINES SERVICES PERIODS [ROOM]", 3, 4, TICKPLUME_BUILD_ANSWER, ask_build},
+    {"build", "ENGINES SERVICES PERIODS [LENGTH [ROOM]]", 3, 5, TICKPLUME_BUILD_ANSWER, ask_build},
     {"judge", "BYTES", 1, 1, TICKPLUME_JUDGE_ANSWER, ask_judge},
     {"question", "BYTES ENGINE TICK", 3, 3, TICKPLUME_QUESTION_ANSWER, ask_question},
     {"start", "BYTES BLOCK", 2, 2, TICKPLUME_STATE, ask_start},
@@ -266,6 +267,7 @@ static void help(void) {
     size_t i;
     for (i = 0; i < calls_len; i++) printf("ask %s%s %s\n", calls[i].lent ? "[-a N] " : "", calls[i].name, calls[i].takes);
     printf("SERVICES, PERIODS and STATE are numbers with commas between, or '' for none; BYTES are hexadecimal, in one argument.\n"
+           "LENGTH is the wanted block length; 0, or none, asks for the periods' greatest common divisor.\n"
            "ROOM is how many bytes or entries are lent for what is written; N how many for the answer (as many as the call wants).\n");
 }
 

@@ -79,7 +79,8 @@ int main(void) {
     const tickplume_duty_t duties[] = {{3, 4}, {3, 4}, {3, 4}, {3, 4}};
     uint8_t room[TICKPLUME_MOST_BYTES];
 
-    tickplume_built_t built = tickplume_table_build(3, duties, 4, room, sizeof room);
+    /* 0: the longest blocks that there are, here of 4 ticks, the periods' greatest common divisor. */
+    tickplume_built_t built = tickplume_table_build(3, duties, 4, 0, room, sizeof room);
     if (built.refusal.kind) return refused("build", built.refusal);
     tickplume_reading_t reading = tickplume_table_judge(built.table);
     if (reading.refusal.kind) return refused("judge", reading.refusal);

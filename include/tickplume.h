@@ -2,7 +2,8 @@
  *
  * A plan serves periodic duties on up to 32 engines: a duty has `service` ticks in each period of `period` ticks. The plan is made for one
  * block of ticks, by algorithm SA1 of Khemka and Shyamasundar; its ROWS move from ENGINE to engine at each block. A row is a line of the
- * plan, an engine is the hardware: what a simulator wants to know is an engine's, and only the library turns one into the other.
+ * plan, an engine is the hardware: what a simulator wants to know is an engine's, and only the library turns one into the other. How many
+ * ticks a block has is asked of the builder: any number that divides every period, or 0 for the greatest such number.
  *
  * This header has the calls twice. Part 1 is what the library exports: numbers and lists of numbers. Part 2 is the same calls with types,
  * inline: an engine and a row are structs that C keeps apart, and each answer is a struct of its own. Programs are meant to use part 2;
@@ -11,8 +12,9 @@
  * What holds for every call:
  * - It takes whatever numbers and bytes arrive, ends, and answers or refuses. A refused call changes no byte of the caller's. Numbers
  *   wider than a parameter are cut by C before the call.
- * - If several refusals apply, the lowest number is told, at the lowest place that has it. Two things differ: 4 and 5 are looked for duty
- *   by duty, 4 before 5; and the two calls for plans of shares have the order that stands with them. 255 comes before all others.
+ * - If several refusals apply, the lowest number is told, at the lowest place that has it. Three things differ: 4 and 5 are looked for duty
+ *   by duty, 4 before 5; 24 is looked for after 5 and before 6; and the two calls for plans of shares have the order that stands with them.
+ *   255 comes before all others.
  * - A call writes over the front of what was lent to it. Bytes and entries past those written stay.
  * - Threads: no call keeps anything for the next one, so any number may run at once, on buffers that no other call is writing.
  * - Heap: none is used. From outside the library wants memcpy and memset at the most.
@@ -65,7 +67,7 @@
     REFUSAL(NO_ROOM, 8, "needed", "what was lent is shorter than what is to be written") \
     REFUSAL(TEXT_FAULT, 9, "line", "a line of the plan program's input is faulty, or (line 0) there are more than 4,096 bytes") \
     REFUSAL(TABLE_FORM, 10, "byte", "the bytes are not in the form of a table") \
-    REFUSAL(BLOCK_LENGTH, 11, "", "the table's block length is not the greatest common divisor of its periods") \
+    REFUSAL(BLOCK_LENGTH, 11, "", "the table's block length does not divide every period") \
     REFUSAL(TABLE_SLICE_NOT_WHOLE, 12, "duty", "a duty's share of a block in the table is not a whole number of ticks") \
     REFUSAL(RUN_ORDER, 13, "run", "a run does not stand after its forerunner by row and first unit") \
     REFUSAL(RUN_SHARES_UNIT, 14, "run", "a run shares a unit with an earlier run of its row") \
@@ -78,6 +80,7 @@
     REFUSAL(LAST_BLOCK, 21, "", "the dispatcher is at the last block, 2^64 - 1") \
     REFUSAL(TOO_MANY_SHARE_BLOCKS, 22, "", "there are more than 4,096 blocks up to the periods' least common multiple") \
     REFUSAL(NO_SHARE_PLAN, 23, "block", "SA2 would give a duty fewer than 0 units, or a block more units than the engines have") \
+    REFUSAL(WANTED_LENGTH, 24, "", "the wanted block length does not divide every period") \
     REFUSAL(SHORT, 255, "entries needed", "the lent answer or state is too short")
 
 /* Their names: TICKPLUME_REFUSED_ENGINES_RANGE is 1, and so on. Later versions may add some, so a switch wants a default. The library never
@@ -139,11 +142,13 @@ extern "C" {
 /* The mark for an idle engine in tickplume_question's and tickplume_share_at's answers. */
 #define TICKPLUME_IDLE UINT64_MAX
 
-/* Builds SA1's plan of the duties (services[i], periods[i]) into table.
+/* Builds SA1's plan of the duties (services[i], periods[i]) into table, in blocks of block_length ticks, which has to divide every period;
+ * 0 asks for the greatest common divisor of the periods. Of each block of T ticks a duty has T * service / period, which has to be whole:
+ * in shorter blocks it runs more often, and not as long at a time.
  * answer[0]: the table's length in bytes.
- * Refusals: 1 to 8. Of 8 the place is the bytes needed. */
+ * Refusals: 1 to 5, 24, 6 to 8, in this order. Of 8 the place is the bytes needed. */
 uint64_t tickplume_build(uint32_t engines, const uint32_t *services, size_t services_len, const uint32_t *periods, size_t periods_len,
-                         uint8_t *table, size_t table_len, uint64_t *answer, size_t answer_len);
+                         uint32_t block_length, uint8_t *table, size_t table_len, uint64_t *answer, size_t answer_len);
 
 /* Judges any bytes: are they a table, whoever wrote it?
  * answer[0..3]: block length, engines, duties, runs.
@@ -175,10 +180,10 @@ uint64_t tickplume_next(const uint8_t *table, size_t table_len, uint64_t *state,
  * Refusals: 10 to 17, 19. */
 uint64_t tickplume_count(const uint8_t *table, size_t table_len, uint64_t blocks, uint64_t *answer, size_t answer_len);
 
-/* A plan of shares is for duties whose share of a block, T * service / period, is not whole; T is the periods' greatest common divisor. A
- * duty gets other numbers of units from block to block, so there is no table: the plan is its allotments, up to the periods' least common
- * multiple, and goes on from the first again. ENGINE i keeps row i; nothing rotates. In a block the duties' units lie one after the other:
- * unit u of engine e is place e * T + u among them, and past the last there is idle time. */
+/* A plan of shares is for duties whose share of a block, T * service / period, is not whole; T is the periods' greatest common divisor, and
+ * no other length may be asked for. A duty gets other numbers of units from block to block, so there is no table: the plan is its
+ * allotments, up to the periods' least common multiple, and goes on from the first again. ENGINE i keeps row i; nothing rotates. In a block
+ * the duties' units lie one after the other: unit u of engine e is place e * T + u among them, and past the last there is idle time. */
 
 /* SA2's allotments of the duties (services[i], periods[i]), block by block, within a block duty by duty:
  * allotments[block * duties + i] is how many units duty i has in the block.
@@ -267,16 +272,17 @@ TICKPLUME_INLINE tickplume_engine_t tickplume_engine(uint32_t number) {
     return engine;
 }
 
-/* Builds SA1's plan of the duties into the room that is lent, and answers the table in it. TICKPLUME_MOST_BYTES are always enough.
- * Refusals: 1, 3 to 8. */
+/* Builds SA1's plan of the duties into the room that is lent, and answers the table in it. TICKPLUME_MOST_BYTES are always enough. A block
+ * has block_length ticks, which has to divide every period; 0 asks for the greatest common divisor of the periods.
+ * Refusals: 1, 3 to 5, 24, 6 to 8, in this order. */
 TICKPLUME_INLINE tickplume_built_t tickplume_table_build(uint32_t engines, const tickplume_duty_t *duties, size_t duties_len,
-                                                         uint8_t *room, size_t room_len) {
+                                                         uint32_t block_length, uint8_t *room, size_t room_len) {
     tickplume_built_t built;
     tickplume_lists_t lists;
     uint8_t none = 0;
     uint64_t answer[TICKPLUME_BUILD_ANSWER] = {0};
     tickplume_lists_of(duties, duties_len, &lists);
-    built.refusal = tickplume_of_word(tickplume_build(engines, lists.services, lists.length, lists.periods, lists.length,
+    built.refusal = tickplume_of_word(tickplume_build(engines, lists.services, lists.length, lists.periods, lists.length, block_length,
                                                       room ? room : &none, room ? room_len : 0, answer, TICKPLUME_BUILD_ANSWER));
     built.table.bytes = built.refusal.kind ? NULL : room;
     built.table.length = TICKPLUME_CAST(size_t, answer[0]);

@@ -228,16 +228,22 @@ private:
 // An accepted table. at(), loads() and dispatcher() judge its bytes anew each time; the lists are only read off them.
 class Table {
 public:
-    // The plan that SA1 makes of the duties, on so many engines. Refusals: 1, 3 to 7.
-    static Table build(std::uint32_t engines, const Duty *duties, std::size_t length) {
+    // The plan that SA1 makes of the duties, on so many engines, in blocks of `block_length` ticks. That has to divide every period; 0 asks
+    // for the greatest common divisor of the periods. Refusals: 1, 3 to 5, 24, 6, 7, in this order.
+    static Table build(std::uint32_t engines, const Duty *duties, std::size_t length, std::uint32_t block_length = 0) {
         const std::vector<tickplume_duty_t> list = inner::duties_of(duties, length);
         std::vector<std::uint8_t> bytes(TICKPLUME_MOST_BYTES);
-        const tickplume_built_t built = tickplume_table_build(engines, list.data(), list.size(), bytes.data(), bytes.size());
+        const tickplume_built_t built =
+            tickplume_table_build(engines, list.data(), list.size(), block_length, bytes.data(), bytes.size());
         inner::answered(built.refusal);
         return from_bytes(bytes.data(), built.table.length);
     }
-    static Table build(std::uint32_t engines, const std::vector<Duty> &duties) { return build(engines, duties.data(), duties.size()); }
-    static Table build(std::uint32_t engines, std::initializer_list<Duty> duties) { return build(engines, duties.begin(), duties.size()); }
+    static Table build(std::uint32_t engines, const std::vector<Duty> &duties, std::uint32_t block_length = 0) {
+        return build(engines, duties.data(), duties.size(), block_length);
+    }
+    static Table build(std::uint32_t engines, std::initializer_list<Duty> duties, std::uint32_t block_length = 0) {
+        return build(engines, duties.begin(), duties.size(), block_length);
+    }
 
     // A table that anybody wrote, judged. Refusals: 10 to 17.
     static Table from_bytes(std::vector<std::uint8_t> bytes) {

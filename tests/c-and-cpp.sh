@@ -143,7 +143,7 @@ uint32_t duty_in_c(void);
 uint32_t duty_in_c(void) {
     const tickplume_duty_t duties[] = {{2, 3}, {2, 3}, {2, 3}};
     uint8_t room[TICKPLUME_MOST_BYTES];
-    return tickplume_table_at(tickplume_table_build(2, duties, 3, room, sizeof room).table, tickplume_engine(0), 5).duty;
+    return tickplume_table_at(tickplume_table_build(2, duties, 3, 0, room, sizeof room).table, tickplume_engine(0), 5).duty;
 }
 C
 cat >"$build/main.c" <<'C'

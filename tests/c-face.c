@@ -69,6 +69,7 @@ static const named_t names[] = {
     {TICKPLUME_REFUSED_LAST_BLOCK, 21, ""},
     {TICKPLUME_REFUSED_TOO_MANY_SHARE_BLOCKS, 22, ""},
     {TICKPLUME_REFUSED_NO_SHARE_PLAN, 23, "block"},
+    {TICKPLUME_REFUSED_WANTED_LENGTH, 24, ""},
     {TICKPLUME_REFUSED_SHORT, 255, "entries needed"},
 };
 
@@ -332,7 +333,7 @@ static void idle(void) {
     static const tickplume_duty_t duties[] = {{1, 3}, {3, 3}, {1, 3}};
     uint8_t room[TICKPLUME_MOST_BYTES];
     bytes_t bytes;
-    const tickplume_built_t built = tickplume_table_build(2, duties, 3, room, sizeof room);
+    const tickplume_built_t built = tickplume_table_build(2, duties, 3, 0, room, sizeof room);
     const tickplume_reply_t reply = tickplume_table_at(built.table, tickplume_engine(1), 2);
     CHECK(word_of(reply.refusal) == 0 && reply.duty == TICKPLUME_NONE && reply.row.number == 1);
     CHECK(tickplume_table_at(built.table, tickplume_engine(1), 1).duty == 2);
@@ -387,8 +388,8 @@ static void compare_build(const set_t *set, size_t room_len) {
     uint64_t length = 0, word;
     tickplume_built_t built;
     memset(room, PAINT, sizeof room), memset(raw, PAINT, sizeof raw);
-    built = tickplume_table_build(set->engines, set->duties, set->length, room, room_len);
-    word = tickplume_build(set->engines, pair.services, set->length, pair.periods, set->length, raw, room_len, &length, 1);
+    built = tickplume_table_build(set->engines, set->duties, set->length, 0, room, room_len);
+    word = tickplume_build(set->engines, pair.services, set->length, pair.periods, set->length, 0, raw, room_len, &length, 1);
     CHECK(word_of(built.refusal) == word);
     CHECK(built.table.length == length);
     CHECK(built.table.bytes == (word ? NULL : room));
@@ -443,7 +444,7 @@ static void many_duties(void) {
     for (many.length = 0; many.length <= LONG; many.length++) {
         const unsigned kind = many.length < 1 || many.length > TICKPLUME_MOST_DUTIES ? 3 : 0;
         uint8_t room[TICKPLUME_MOST_BYTES];
-        CHECK(tickplume_table_build(1, many.duties, many.length, room, sizeof room).refusal.kind == kind);
+        CHECK(tickplume_table_build(1, many.duties, many.length, 0, room, sizeof room).refusal.kind == kind);
         CHECK(tickplume_shares_at(1, many.duties, many.length, tickplume_engine(0), 0).refusal.kind == kind);
         compare_build(&many, ROOM);
         compare_shares(&many, SOME);
@@ -459,9 +460,9 @@ static void null_lists(void) {
     uint8_t room[TICKPLUME_MOST_BYTES];
     uint32_t allotments[1];
     memset(&dispatcher, PAINT, sizeof dispatcher);
-    CHECK(word_of(tickplume_table_build(2, NULL, 3, room, sizeof room).refusal) == refused(3, 0));
-    CHECK(word_of(tickplume_table_build(2, NULL, 0, NULL, 9).refusal) == refused(3, 0));
-    CHECK(word_of(tickplume_table_build(2, duties, 3, NULL, sizeof room).refusal) == refused(8, 81));
+    CHECK(word_of(tickplume_table_build(2, NULL, 3, 0, room, sizeof room).refusal) == refused(3, 0));
+    CHECK(word_of(tickplume_table_build(2, NULL, 0, 0, NULL, 9).refusal) == refused(3, 0));
+    CHECK(word_of(tickplume_table_build(2, duties, 3, 0, NULL, sizeof room).refusal) == refused(8, 81));
     CHECK(word_of(tickplume_table_judge(none).refusal) == refused(10, 0));
     CHECK(word_of(tickplume_table_at(none, tickplume_engine(0), 0).refusal) == refused(10, 0));
     CHECK(word_of(tickplume_table_loads(none, 0).refusal) == refused(10, 0));
@@ -485,7 +486,7 @@ static bytes_t good;
 
 static uint64_t build(uint64_t *answer, size_t length) {
     uint8_t room[81];
-    return tickplume_build(2, twos, 3, threes, 3, room, sizeof room, answer, length);
+    return tickplume_build(2, twos, 3, threes, 3, 0, room, sizeof room, answer, length);
 }
 static uint64_t judge(uint64_t *answer, size_t length) { return tickplume_judge(good.bytes, good.length, answer, length); }
 static uint64_t question(uint64_t *answer, size_t length) { return tickplume_question(good.bytes, good.length, 1, 5, answer, length); }
@@ -536,7 +537,7 @@ static void short_first(void) {
     uint8_t room[1] = {PAINT};
     uint32_t allotments[1] = {0};
     memset(answer, PAINT, sizeof answer);
-    CHECK(tickplume_build(0, none_lent, 0, none_lent, 1, room, 1, answer, 0) == refused(255, 1));
+    CHECK(tickplume_build(0, none_lent, 0, none_lent, 1, 0, room, 1, answer, 0) == refused(255, 1));
     CHECK(tickplume_judge(room, 0, answer, 3) == refused(255, 4));
     CHECK(tickplume_question(room, 0, 99, 0, answer, 1) == refused(255, 2));
     CHECK(tickplume_start(room, 0, 0, answer, 32) == refused(255, 33));
@@ -547,7 +548,7 @@ static void short_first(void) {
     CHECK(tickplume_shares(0, none_lent, 0, none_lent, 1, allotments, 1, answer, 2) == refused(255, 3));
     CHECK(tickplume_share_at(0, none_lent, 0, none_lent, 1, 99, 0, answer, 0) == refused(255, 1));
     CHECK(painted(answer, sizeof answer) && room[0] == PAINT && allotments[0] == 0);
-    CHECK(tickplume_build(1, none_lent, 0, none_lent, 1, room, 1, answer, 1) == refused(2, 0));
+    CHECK(tickplume_build(1, none_lent, 0, none_lent, 1, 0, room, 1, answer, 1) == refused(2, 0));
     CHECK(tickplume_shares(1, none_lent, 0, none_lent, 1, allotments, 1, answer, 3) == refused(2, 0));
     CHECK(tickplume_share_at(1, none_lent, 0, none_lent, 1, 0, 0, answer, 1) == refused(2, 0));
     met[2]++;
@@ -557,7 +558,7 @@ static void short_first(void) {
 
 static uint64_t building(uint32_t engines, const tickplume_duty_t *duties, size_t length, size_t room_len) {
     uint8_t room[ROOM];
-    return word_of(tickplume_table_build(engines, duties, length, room, room_len).refusal);
+    return word_of(tickplume_table_build(engines, duties, length, 0, room, room_len).refusal);
 }
 
 static uint64_t sharing(uint32_t engines, const tickplume_duty_t *duties, size_t length, size_t entries) {

@@ -203,7 +203,7 @@ static void tables() {
         std::vector<tickplume_duty_t> list;
         for (const Duty &duty : set.duties) list.push_back({duty.service, duty.period});
         std::uint8_t room[TICKPLUME_MOST_BYTES];
-        const tickplume_built_t built = tickplume_table_build(set.engines, list.data(), list.size(), room, sizeof room);
+        const tickplume_built_t built = tickplume_table_build(set.engines, list.data(), list.size(), 0, room, sizeof room);
         CHECK(refused([&] { Table::build(set.engines, set.duties); }) == word(built.refusal));
         CHECK(refused([&] { Table::build(set.engines, set.duties.data(), set.duties.size()); }) == word(built.refusal));
         if (built.refusal.kind) continue;

@@ -48,7 +48,7 @@ static tickplume_table_t table(void) {
     return lent;
 }
 
-static uint64_t build(void) { return tickplume_build(32, halves, 64, wholes, 64, room, sizeof room, answer, 1); }
+static uint64_t build(void) { return tickplume_build(32, halves, 64, wholes, 64, 0, room, sizeof room, answer, 1); }
 static uint64_t judge(void) { return tickplume_judge(bytes, length, answer, 4); }
 static uint64_t question(void) { return tickplume_question(bytes, length, 0, UINT64_MAX, answer, 2); }
 static uint64_t start(void) { return tickplume_start(bytes, length, UINT64_MAX - 2, state, TICKPLUME_STATE); }
@@ -60,7 +60,7 @@ static uint64_t shares(void) {
     return word | (answer[0] != TICKPLUME_MOST_ALLOTMENTS);
 }
 static uint64_t share_at(void) { return tickplume_share_at(1, services, 64, periods, 64, 0, UINT64_MAX, answer, 1); }
-static uint64_t typed_build(void) { return tickplume_table_build(32, half_duties, 64, room, sizeof room).refusal.kind; }
+static uint64_t typed_build(void) { return tickplume_table_build(32, half_duties, 64, 0, room, sizeof room).refusal.kind; }
 static uint64_t typed_judge(void) { return tickplume_table_judge(table()).refusal.kind; }
 static uint64_t typed_shares(void) {
     return tickplume_shares_build(1, share_duties, 64, allotments, TICKPLUME_MOST_ALLOTMENTS).refusal.kind;
