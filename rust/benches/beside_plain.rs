@@ -206,7 +206,7 @@ fn falling() -> Vec<u8> {
 fn built(n: usize) -> Vec<u8> {
     let (engines, services, periods) = duties(n);
     let mut b = vec![0; 2000];
-    let written = calls::build(engines, &services, &periods, &mut b).unwrap();
+    let written = calls::build(engines, &services, &periods, 0, &mut b).unwrap();
     b.truncate(written);
     b
 }
@@ -310,7 +310,7 @@ fn main() {
         "build, refused at once",
         100_000,
         || {
-            let _ = black_box(calls::build(black_box(0), black_box(&services), black_box(&periods), &mut out));
+            let _ = black_box(calls::build(black_box(0), black_box(&services), black_box(&periods), 0, &mut out));
         },
         || {
             let _ = black_box(plain::build(black_box(0), black_box(&services), black_box(&periods), &mut other));
@@ -319,13 +319,13 @@ fn main() {
     for n in [1, 8, 64] {
         let (engines, services, periods) = duties(n);
         let (mut out, mut other) = (vec![0u8; 2000], vec![0u8; 2000]);
-        assert!(calls::build(engines, &services, &periods, &mut out).is_ok());
+        assert!(calls::build(engines, &services, &periods, 0, &mut out).is_ok());
         beside(
             &format!("build, {n} duties"),
             20_000 / n,
             || {
                 let _ =
-                    black_box(calls::build(black_box(engines), black_box(&services), black_box(&periods), &mut out));
+                    black_box(calls::build(black_box(engines), black_box(&services), black_box(&periods), 0, &mut out));
             },
             || {
                 let _ =

@@ -14,7 +14,7 @@ fn told<T: std::fmt::Debug>(result: Result<T, Refusal>) -> String {
 /// Builds with a buffer of so many bytes, each 0xa5, and says what became of it.
 fn build(name: &str, engines: u32, services: &[u32], periods: &[u32], room: usize) {
     let mut buffer = vec![0xa5; room];
-    let result = calls::build(engines, services, periods, &mut buffer);
+    let result = calls::build(engines, services, periods, 0, &mut buffer);
     let kept = match result {
         Ok(n) => buffer[n..].iter().all(|&x| x == 0xa5),
         Err(_) => buffer.iter().all(|&x| x == 0xa5),

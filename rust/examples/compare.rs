@@ -73,7 +73,7 @@ fn compare_set(seen: &mut Seen, random: &mut Random, set: &Set, turn: Turn) -> R
     };
     let theirs = filler::build(set.engines as u64, &set.services, &set.periods, room);
     let mut buffer = vec![0xa5u8; room];
-    let ours = calls::build(set.engines, &set.services, &set.periods, &mut buffer).map_err(as_pair);
+    let ours = calls::build(set.engines, &set.services, &set.periods, 0, &mut buffer).map_err(as_pair);
     seen.sets += 1;
     match (&ours, &theirs) {
         (Ok(n), Ok(table)) => {

@@ -7,7 +7,8 @@ use tickplume::{Dispatcher, Duty, Engine, Held, Refusal, Row, Table};
 
 fn main() -> Result<(), Refusal> {
     // Four duties of 3 ticks in every 4, on three engines: one chain of three rows.
-    let table = Table::build(3, &[Duty { service: 3, period: 4 }; 4])?;
+    // 0: the longest blocks that there are, here of 4 ticks, the periods' greatest common divisor.
+    let table = Table::build(3, &[Duty { service: 3, period: 4 }; 4], 0)?;
     println!("{}", table.reading());
 
     // Which row does each engine run in a block? One call for all engines.

@@ -40,7 +40,7 @@ fn show(name: &str, table: &[u8]) {
 
 fn planned(name: &str, engines: u32, duties: &[(u32, u32)]) {
     let duties: Vec<Duty> = duties.iter().map(|&(service, period)| Duty { service, period }).collect();
-    show(name, Table::build(engines, &duties).unwrap().as_bytes());
+    show(name, Table::build(engines, &duties, 0).unwrap().as_bytes());
 }
 
 /// A table written by hand: block length, engines, duties, runs (row, duty, first, length).

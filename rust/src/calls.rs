@@ -37,17 +37,24 @@ pub(crate) fn length(entry: u64) -> usize {
     usize::try_from(entry).unwrap_or(usize::MAX)
 }
 
-/// Builds the plan of `services` and `periods` into `table` and answers its length in bytes. The bytes past it stay; a
-/// refusal (1 to 8) leaves every byte as it was.
+/// Builds the plan of `services` and `periods`, in blocks of `block_length` ticks, into `table` and answers its length
+/// in bytes. 0 asks for blocks of the periods' greatest common divisor. The bytes past the table stay; a refusal (1 to
+/// 5, 24, 6 to 8) leaves every byte as it was.
 ///
 /// ```
 /// let mut table = [0xaa; 40];
-/// assert_eq!(tickplume::calls::build(1, &[1], &[1], &mut table)?, 30);
+/// assert_eq!(tickplume::calls::build(1, &[1], &[1], 0, &mut table)?, 30);
 /// assert_eq!(table[..7], [1, 1, 0, 0, 0, 1, 1]);
 /// assert_eq!(table[30], 0xaa);
 /// # Ok::<(), tickplume::Refusal>(())
 /// ```
-pub fn build(engines: u32, services: &[u32], periods: &[u32], table: &mut [u8]) -> Result<usize, Refusal> {
+pub fn build(
+    engines: u32,
+    services: &[u32],
+    periods: &[u32],
+    block_length: u32,
+    table: &mut [u8],
+) -> Result<usize, Refusal> {
     let mut answer = [0u64; 1];
     // SAFETY: here and below every pointer comes from a slice and goes with that slice's length, so it is not null,
     // aligned and valid for so many entries. What the function writes to comes from a `&mut`, so that it overlaps
@@ -59,6 +66,7 @@ pub fn build(engines: u32, services: &[u32], periods: &[u32], table: &mut [u8]) 
             services.len(),
             periods.as_ptr(),
             periods.len(),
+            block_length,
             table.as_mut_ptr(),
             table.len(),
             answer.as_mut_ptr(),

@@ -7,7 +7,7 @@ use crate::{calls, Engine, Refusal, Row, Table, MOST_ENGINES};
 /// ```
 /// use tickplume::{Duty, Table};
 ///
-/// let table = Table::build(3, &[Duty { service: 3, period: 4 }; 4])?;
+/// let table = Table::build(3, &[Duty { service: 3, period: 4 }; 4], 0)?;
 /// let mut dispatcher = table.dispatcher(0)?;
 /// for _ in 0..4 {
 ///     for (engine, row) in table.engines().zip(dispatcher.rows()) {
@@ -63,7 +63,7 @@ impl Dispatcher {
     /// ```
     /// #![deny(unused_must_use)]
     /// # use tickplume::{Duty, Table};
-    /// # let table = Table::build(3, &[Duty { service: 3, period: 4 }; 4])?;
+    /// # let table = Table::build(3, &[Duty { service: 3, period: 4 }; 4], 0)?;
     /// let mut dispatcher = table.dispatcher(0)?;
     /// dispatcher = dispatcher.next(&table)?;
     /// assert_eq!(dispatcher.block(), 1);
@@ -75,7 +75,7 @@ impl Dispatcher {
     /// ```compile_fail
     /// #![deny(unused_must_use)]
     /// # use tickplume::{Duty, Table};
-    /// # let table = Table::build(3, &[Duty { service: 3, period: 4 }; 4])?;
+    /// # let table = Table::build(3, &[Duty { service: 3, period: 4 }; 4], 0)?;
     /// let mut dispatcher = table.dispatcher(0)?;
     /// dispatcher.next(&table)?;
     /// assert_eq!(dispatcher.block(), 1);

@@ -8,6 +8,7 @@ extern "C" {
         services_len: usize,
         periods: *const u32,
         periods_len: usize,
+        block_length: u32,
         table: *mut u8,
         table_len: usize,
         answer: *mut u64,

@@ -15,9 +15,9 @@
 //! ```
 //! use tickplume::{Duty, Engine, Held, Table};
 //!
-//! // Three duties of 2 ticks in every 3, on two engines.
+//! // Three duties of 2 ticks in every 3, on two engines; 0 asks for the longest blocks that there are.
 //! let duty = Duty { service: 2, period: 3 };
-//! let table = Table::build(2, &[duty, duty, duty])?;
+//! let table = Table::build(2, &[duty, duty, duty], 0)?;
 //! assert_eq!(table.reading().block_length, 3);
 //!
 //! // At tick 5 engine 0 has duty 2 and engine 1 duty 1.

@@ -18,7 +18,7 @@ pub struct Duty {
 ///
 /// ```
 /// # use tickplume::{Duty, Engine, Row, Table};
-/// # let table = Table::build(2, &[Duty { service: 2, period: 3 }; 3])?;
+/// # let table = Table::build(2, &[Duty { service: 2, period: 3 }; 3], 0)?;
 /// let reply = table.at(Engine(1), 5)?;
 /// # Ok::<(), tickplume::Refusal>(())
 /// ```
@@ -27,7 +27,7 @@ pub struct Duty {
 ///
 /// ```compile_fail,E0308
 /// # use tickplume::{Duty, Engine, Row, Table};
-/// # let table = Table::build(2, &[Duty { service: 2, period: 3 }; 3])?;
+/// # let table = Table::build(2, &[Duty { service: 2, period: 3 }; 3], 0)?;
 /// let reply = table.at(Row(1), 5)?;
 /// # Ok::<(), tickplume::Refusal>(())
 /// ```
@@ -40,7 +40,7 @@ pub struct Engine(pub u32);
 ///
 /// ```
 /// # use tickplume::{Duty, Engine, Row, Table};
-/// # let table = Table::build(2, &[Duty { service: 2, period: 3 }; 3])?;
+/// # let table = Table::build(2, &[Duty { service: 2, period: 3 }; 3], 0)?;
 /// let runs = table.runs().iter().filter(|run| run.row == Row(1));
 /// # assert_eq!(runs.count(), 2);
 /// # Ok::<(), tickplume::Refusal>(())
@@ -50,7 +50,7 @@ pub struct Engine(pub u32);
 ///
 /// ```compile_fail,E0308
 /// # use tickplume::{Duty, Engine, Row, Table};
-/// # let table = Table::build(2, &[Duty { service: 2, period: 3 }; 3])?;
+/// # let table = Table::build(2, &[Duty { service: 2, period: 3 }; 3], 0)?;
 /// let runs = table.runs().iter().filter(|run| run.row == Engine(1));
 /// # assert_eq!(runs.count(), 2);
 /// # Ok::<(), tickplume::Refusal>(())
@@ -96,7 +96,7 @@ pub struct Reply {
 /// What a judge reads off an accepted table.
 #[derive(Clone, Copy, Debug, PartialEq, Eq, Hash)]
 pub struct Reading {
-    /// Ticks in a block.
+    /// Ticks in a block, a number that divides every period.
     pub block_length: u32,
     /// How many engines, and rows.
     pub engines: u32,

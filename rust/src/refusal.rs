@@ -14,7 +14,7 @@ macro_rules! kinds {
         ///
         /// // One tick in every 4 and 2 in every 6: blocks of 2 ticks, of which duty 0 would need a half.
         /// let duties = [Duty { service: 1, period: 4 }, Duty { service: 2, period: 6 }];
-        /// let refusal = Table::build(2, &duties).unwrap_err();
+        /// let refusal = Table::build(2, &duties, 0).unwrap_err();
         /// let advice = match refusal.kind() {
         ///     RefusalKind::SliceNotWhole => format!("duty {} wants a plan of shares", refusal.place),
         ///     RefusalKind::Overload => "one engine more".to_string(),
@@ -78,7 +78,7 @@ kinds! {
     NoRoom, 8, "needed", "what was lent is shorter than what is to be written";
     TextFault, 9, "line", "a line of the plan program's input is faulty, or (line 0) there are more than 4,096 bytes";
     TableForm, 10, "byte", "the bytes are not in the form of a table";
-    BlockLength, 11, "", "the table's block length is not the greatest common divisor of its periods";
+    BlockLength, 11, "", "the table's block length does not divide every period";
     TableSliceNotWhole, 12, "duty", "a duty's share of a block in the table is not a whole number of ticks";
     RunOrder, 13, "run", "a run does not stand after its forerunner by row and first unit";
     RunSharesUnit, 14, "run", "a run shares a unit with an earlier run of its row";
@@ -91,6 +91,7 @@ kinds! {
     LastBlock, 21, "", "the dispatcher is at the last block, 2^64 - 1";
     TooManyShareBlocks, 22, "", "there are more than 4,096 blocks up to the periods' least common multiple";
     NoSharePlan, 23, "block", "SA2 would give a duty fewer than 0 units, or a block more units than the engines have";
+    WantedLength, 24, "", "the wanted block length does not divide every period";
     Short, 255, "entries needed", "the lent answer or state is too short";
 }
 
@@ -108,7 +109,7 @@ impl fmt::Display for RefusalKind {
 /// ```
 /// use tickplume::{Duty, RefusalKind, Table};
 ///
-/// let refusal = Table::build(1, &[Duty { service: 1, period: 1 }, Duty { service: 3, period: 2 }]).unwrap_err();
+/// let refusal = Table::build(1, &[Duty { service: 1, period: 1 }, Duty { service: 3, period: 2 }], 0).unwrap_err();
 /// assert_eq!((refusal.number, refusal.place), (5, 1));
 /// assert_eq!(refusal.kind(), RefusalKind::ServiceRange);
 /// assert_eq!(refusal.to_string(), "refused 5: a duty's service is not between 1 and its period (duty 1)");
@@ -140,7 +141,7 @@ impl Refusal {
     ///
     /// ```
     /// use tickplume::{Duty, Table};
-    /// let refusal = Table::build(0, &[Duty { service: 1, period: 1 }]).unwrap_err();
+    /// let refusal = Table::build(0, &[Duty { service: 1, period: 1 }], 0).unwrap_err();
     /// assert_eq!(refusal.number, 1);
     /// assert_eq!(refusal.meaning(), "the number of engines is not between 1 and 32");
     /// ```

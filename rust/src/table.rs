@@ -11,7 +11,7 @@ use std::fmt;
 ///
 /// // Three duties of 2 ticks in every 3, on two engines.
 /// let duty = Duty { service: 2, period: 3 };
-/// let table = Table::build(2, &[duty; 3])?;
+/// let table = Table::build(2, &[duty; 3], 0)?;
 /// assert_eq!(table.block_length(), 3);
 /// assert_eq!(table.duties(), [duty, duty, duty]);
 ///
@@ -30,7 +30,7 @@ use std::fmt;
 ///
 /// ```
 /// # use tickplume::{Duty, Table};
-/// # let table = Table::build(2, &[Duty { service: 2, period: 3 }; 3])?;
+/// # let table = Table::build(2, &[Duty { service: 2, period: 3 }; 3], 0)?;
 /// let text = "\
 /// plan 3 2 3
 /// duty 0 2 3
@@ -55,11 +55,33 @@ pub struct Table {
 }
 
 impl Table {
-    /// The plan that SA1 makes of the duties, on so many engines. Refusals 1 and 3 to 7.
-    pub fn build(engines: u32, duties: &[Duty]) -> Result<Table, Refusal> {
+    /// The plan that SA1 makes of the duties, on so many engines, in blocks of `block_length` ticks. That has to divide
+    /// every period; 0 asks for the greatest common divisor of the periods. Refusals 1, 3 to 5, 24, 6 and 7, in this
+    /// order.
+    ///
+    /// Of each block a duty has its share. So in shorter blocks it runs more often, and not as long at a time:
+    ///
+    /// ```
+    /// use tickplume::{Duty, RefusalKind, Table};
+    ///
+    /// // Three duties of 40 ticks in every 60, on two engines.
+    /// let duties = [Duty { service: 40, period: 60 }; 3];
+    /// let longest = Table::build(2, &duties, 0)?;
+    /// assert_eq!(longest.reading().block_length, 60);
+    /// assert_eq!(longest.runs()[0].units(), 0..40);
+    /// let shorter = Table::build(2, &duties, 3)?;
+    /// assert_eq!(shorter.reading().block_length, 3);
+    /// assert_eq!(shorter.runs()[0].units(), 0..2);
+    ///
+    /// // 7 does not divide 60. 20 does, but a duty's share of 20 ticks would be 13 1/3.
+    /// assert_eq!(Table::build(2, &duties, 7).unwrap_err().kind(), RefusalKind::WantedLength);
+    /// assert_eq!(Table::build(2, &duties, 20).unwrap_err().kind(), RefusalKind::SliceNotWhole);
+    /// # Ok::<(), tickplume::Refusal>(())
+    /// ```
+    pub fn build(engines: u32, duties: &[Duty], block_length: u32) -> Result<Table, Refusal> {
         let (services, periods) = calls::lists(duties);
         let mut bytes = vec![0u8; MOST_BYTES];
-        let length = calls::build(engines, &services, &periods, &mut bytes)?;
+        let length = calls::build(engines, &services, &periods, block_length, &mut bytes)?;
         bytes.truncate(length);
         Table::from_bytes(bytes)
     }
@@ -69,7 +91,7 @@ impl Table {
     /// ```
     /// use tickplume::{Duty, RefusalKind, Table};
     ///
-    /// let table = Table::build(2, &[Duty { service: 2, period: 3 }; 3])?;
+    /// let table = Table::build(2, &[Duty { service: 2, period: 3 }; 3], 0)?;
     /// let stored = table.as_bytes().to_vec();
     /// assert_eq!(Table::from_bytes(stored)?, table);
     ///
@@ -102,7 +124,7 @@ impl Table {
         self.reading
     }
 
-    /// Ticks in a block.
+    /// Ticks in a block, a number that divides every period.
     #[must_use]
     pub fn block_length(&self) -> u32 {
         self.reading.block_length
@@ -142,7 +164,7 @@ impl Table {
     /// ```
     /// use tickplume::{Duty, Engine, Held, Row, Table};
     /// let d = |service, period| Duty { service, period };
-    /// let table = Table::build(2, &[d(1, 3), d(3, 3), d(1, 3)])?;
+    /// let table = Table::build(2, &[d(1, 3), d(3, 3), d(1, 3)], 0)?;
     /// let reply = table.at(Engine(1), 2)?;
     /// assert_eq!((reply.held, reply.row), (Held::Idle, Row(1)));
     /// assert_eq!(table.at(Engine(2), 0).unwrap_err().number, 18);
@@ -157,7 +179,7 @@ impl Table {
     /// ```
     /// use tickplume::{Duty, Engine, Row, Table};
     /// // Four duties of 3 ticks in every 4, on three engines: one chain of three rows.
-    /// let table = Table::build(3, &[Duty { service: 3, period: 4 }; 4])?;
+    /// let table = Table::build(3, &[Duty { service: 3, period: 4 }; 4], 0)?;
     /// for block in 0..4 {
     ///     for (engine, row) in table.rows_in(block)? {
     ///         println!("block {block}: {engine} has {row}");
@@ -181,7 +203,7 @@ impl Table {
     /// ```
     /// use tickplume::{Duty, Engine, Row, Table};
     /// let duty = Duty { service: 3, period: 4 };
-    /// let table = Table::build(3, &[duty; 4])?;
+    /// let table = Table::build(3, &[duty; 4], 0)?;
     /// let mut dispatcher = table.dispatcher(0)?;
     /// let mut rows = Vec::new();
     /// for _ in 0..4 {

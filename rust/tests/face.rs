@@ -10,6 +10,7 @@ extern "C" {
         services_len: usize,
         periods: *const u32,
         periods_len: usize,
+        block_length: u32,
         table: *mut u8,
         table_len: usize,
         answer: *mut u64,
@@ -60,15 +61,30 @@ fn refusal(number: u64, place: u64) -> u64 {
     number + 256 * place
 }
 
+/// `tickplume_build` on two engines, in blocks of so many ticks.
+fn build(services: &[u32], periods: &[u32], block_length: u32, table: &mut [u8], answer: &mut [u64]) -> u64 {
+    unsafe {
+        tickplume_build(
+            2,
+            services.as_ptr(),
+            services.len(),
+            periods.as_ptr(),
+            periods.len(),
+            block_length,
+            table.as_mut_ptr(),
+            table.len(),
+            answer.as_mut_ptr(),
+            answer.len(),
+        )
+    }
+}
+
 /// The table of three duties of 2 ticks in every 3, on two engines.
 fn table() -> Vec<u8> {
-    let (services, periods) = ([2u32; 3], [3u32; 3]);
     let mut table = vec![0u8; 100];
     let mut answer = [MARK; 2];
-    let word = unsafe {
-        tickplume_build(2, services.as_ptr(), 3, periods.as_ptr(), 3, table.as_mut_ptr(), 100, answer.as_mut_ptr(), 2)
-    };
-    assert_eq!((word, answer), (0, [81, MARK]));
+    assert_eq!(build(&[2; 3], &[3; 3], 0, &mut table, &mut answer), 0);
+    assert_eq!(answer, [81, MARK]);
     table.truncate(81);
     table
 }
@@ -81,9 +97,10 @@ fn a_short_answer_is_refused_before_all_else() {
     let state = [MARK; 33];
     let mut out = [7u8; 40];
     unsafe {
-        // no engines, and a table too short: still 255 first
-        let none: [u32; 0] = [];
-        assert_eq!(tickplume_build(0, none.as_ptr(), 0, none.as_ptr(), 0, out.as_mut_ptr(), 3, a, 0), refusal(255, 1));
+        // no engines, a length that divides no period, and a table too short: still 255 first
+        let one = [1u32];
+        let (list, table) = (one.as_ptr(), out.as_mut_ptr());
+        assert_eq!(tickplume_build(0, list, 1, list, 1, 2, table, 3, a, 0), refusal(255, 1));
         for n in 0..4 {
             assert_eq!(tickplume_judge(bad.as_ptr(), 5, a, n), refusal(255, 4));
         }
@@ -138,6 +155,29 @@ fn entries_past_the_answer_stay() {
     expected[..3].copy_from_slice(&[7, 1, 0]);
     expected[33..].fill(MARK);
     assert_eq!(state, expected);
+}
+
+#[test]
+fn refusals_of_a_build_leave_the_answer_and_the_table() {
+    let mut answer = [MARK; 2];
+    let mut table = [7u8; 100];
+    let mut refused = |services: &[u32], periods: &[u32], block_length: u32, room: usize| {
+        let word = build(services, periods, block_length, &mut table[..room], &mut answer);
+        assert_eq!((answer, table), ([MARK; 2], [7; 100]));
+        word
+    };
+    // 24 stands after 2 to 5 and before 6 to 8, and names no place
+    assert_eq!(refused(&[1], &[1, 1], 2, 0), refusal(2, 0));
+    assert_eq!(refused(&[], &[], 2, 0), refusal(3, 0));
+    assert_eq!(refused(&[1, 1], &[6, 0], 4, 0), refusal(4, 1));
+    assert_eq!(refused(&[1, 7], &[6, 6], 4, 0), refusal(5, 1));
+    assert_eq!(refused(&[1, 2], &[4, 6], 3, 0), refusal(24, 0));
+    assert_eq!(refused(&[6, 6, 6], &[6, 6, 6], 4, 0), refusal(24, 0));
+    assert_eq!(refused(&[4, 4, 4], &[6, 6, 6], 12, 0), refusal(24, 0));
+    // 6 to 8 go by the length that was asked for
+    assert_eq!(refused(&[6, 4, 4], &[6, 6, 6], 2, 0), refusal(6, 1));
+    assert_eq!(refused(&[6, 6, 2], &[6, 6, 6], 3, 0), refusal(7, 0));
+    assert_eq!(refused(&[4, 4, 4], &[6, 6, 6], 3, 80), refusal(8, 81));
 }
 
 /// `tickplume_shares` on one engine, with an answer of so many entries.

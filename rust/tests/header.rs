@@ -34,7 +34,7 @@ fn listed(line: &str) -> Option<Listed> {
 
 fn list() -> Vec<Listed> {
     let list: Vec<Listed> = header().lines().filter_map(listed).collect();
-    assert!(list.len() >= 24, "{} refusals are read off the header", list.len());
+    assert!(list.len() >= 25, "{} refusals are read off the header", list.len());
     list
 }
 

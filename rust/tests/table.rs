@@ -32,7 +32,7 @@ fn planned(set: &str) -> Table {
     let duties: Vec<Duty> = lines
         .map(|mut words| Duty { service: words.next().expect("a service"), period: words.next().expect("a period") })
         .collect();
-    Table::build(engines, &duties).unwrap_or_else(|refusal| panic!("{set}: {refusal}"))
+    Table::build(engines, &duties, 0).unwrap_or_else(|refusal| panic!("{set}: {refusal}"))
 }
 
 #[test]
