@@ -51,10 +51,21 @@ fn in_range(engines: u32, services: &[u32], periods: &[u32]) -> Result<(), Refus
     Ok(())
 }
 
+/// The block length that is wanted, 0 for the greatest, or refusal 24.
+fn block_length(periods: &[u32], wanted: u32) -> Result<u32, Refused> {
+    if wanted == 0 {
+        return Ok(periods.iter().fold(0, |g, &d| gcd(g, d)));
+    }
+    if periods.iter().any(|d| d % wanted != 0) {
+        return Err((24, 0));
+    }
+    Ok(wanted)
+}
+
 /// Builds a table, as the library's builder does.
-pub fn build(engines: u32, services: &[u32], periods: &[u32], out: &mut [u8]) -> Result<usize, Refused> {
+pub fn build(engines: u32, services: &[u32], periods: &[u32], wanted: u32, out: &mut [u8]) -> Result<usize, Refused> {
     in_range(engines, services, periods)?;
-    let t = periods.iter().fold(0, |g, &d| gcd(g, d));
+    let t = block_length(periods, wanted)?;
     for (i, (&c, &d)) in services.iter().zip(periods).enumerate() {
         if t as u64 * c as u64 % d as u64 != 0 {
             return Err((6, i as u64));
@@ -246,7 +257,7 @@ fn judge_by(b: &[u8], rules: impl Fn(&[Run]) -> Result<(), Refused>) -> Result<P
         return form(at + 3);
     }
     let runs = &list[..k];
-    if t != duties[..n as usize].iter().fold(0, |g, x| gcd(g, x.1)) {
+    if duties[..n as usize].iter().any(|x| x.1 % t != 0) {
         return Err((11, 0));
     }
     for (i, &(c, d)) in duties[..n as usize].iter().enumerate() {

@@ -300,38 +300,35 @@ fn stepped_and_counted(runs: usize) {
     );
 }
 
+/// The build of a set by the library and in plain Rust, in blocks of the wanted length; 0 is the greatest.
+fn building(name: &str, times: usize, (engines, services, periods): (u32, Vec<u32>, Vec<u32>), block_length: u32) {
+    let (mut out, mut other) = (vec![0u8; 2000], vec![0u8; 2000]);
+    beside(
+        name,
+        times,
+        || {
+            let (services, periods) = (black_box(&services), black_box(&periods));
+            let _ = black_box(calls::build(black_box(engines), services, periods, black_box(block_length), &mut out));
+        },
+        || {
+            let (services, periods) = (black_box(&services), black_box(&periods));
+            let _ = black_box(plain::build(black_box(engines), services, periods, black_box(block_length), &mut other));
+        },
+    );
+    assert!(out == other && (engines == 0 || out[0] == 1));
+}
+
 fn main() {
     println!("| call | library, ns | plain Rust, ns | ratio | middle half |");
     println!("|---|---|---|---|---|");
     // what a call costs by itself: no engines are refused before a duty is looked at
     let (_, services, periods) = duties(1);
-    let (mut out, mut other) = (vec![0u8; 2000], vec![0u8; 2000]);
-    beside(
-        "build, refused at once",
-        100_000,
-        || {
-            let _ = black_box(calls::build(black_box(0), black_box(&services), black_box(&periods), 0, &mut out));
-        },
-        || {
-            let _ = black_box(plain::build(black_box(0), black_box(&services), black_box(&periods), &mut other));
-        },
-    );
+    building("build, refused at once", 100_000, (0, services, periods), 0);
     for n in [1, 8, 64] {
-        let (engines, services, periods) = duties(n);
-        let (mut out, mut other) = (vec![0u8; 2000], vec![0u8; 2000]);
-        assert!(calls::build(engines, &services, &periods, 0, &mut out).is_ok());
-        beside(
-            &format!("build, {n} duties"),
-            20_000 / n,
-            || {
-                let _ =
-                    black_box(calls::build(black_box(engines), black_box(&services), black_box(&periods), 0, &mut out));
-            },
-            || {
-                let _ =
-                    black_box(plain::build(black_box(engines), black_box(&services), black_box(&periods), &mut other));
-            },
-        );
+        building(&format!("build, {n} duties"), 20_000 / n, duties(n), 0);
+    }
+    for n in [8, 64] {
+        building(&format!("build, {n} duties, blocks of 240 wanted"), 20_000 / n, duties(n), 240);
     }
     for runs in [8, 16, 32, 64, 128] {
         judged(&format!("judge, {runs} runs"), &one_row_each(runs));

@@ -93,7 +93,7 @@ impl Comparison {
         let room = if random.once_in(4) { random.below(400) as usize } else { 2_000 };
         let (mut ours, mut theirs) = (vec![7u8; room], vec![7u8; room]);
         let a = calls::build(set.engines, &set.services, &set.periods, 0, &mut ours).map_err(pair);
-        let b = plain::build(set.engines, &set.services, &set.periods, &mut theirs);
+        let b = plain::build(set.engines, &set.services, &set.periods, 0, &mut theirs);
         self.same("build", a, b, &set);
         self.same("the built bytes", &ours, &theirs, &set);
         a.ok().map(|n| ours[..n].to_vec())
