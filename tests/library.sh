@@ -21,7 +21,7 @@ for program in boundaries stretches shares orders; do
     }
 done
 (cd rust && cargo run --offline --release -q --example compare) || exit 1
-for error in backwards one-ring never last-chosen forgets-need negative-as-0; do
+for error in backwards one-ring never ignores-length length-late greatest-alone last-chosen forgets-need negative-as-0; do
     if (cd rust && cargo run --offline --release -q --example compare -- --plant "$error") >"$build/planted"; then
         echo "a planted error, $error, was not seen"
         exit 1

@@ -45,19 +45,61 @@ pub fn duties(engines: u64, services: &[u32], periods: &[u32]) -> Result<Vec<Dut
     Ok(duties)
 }
 
-/// Fills one block from the duties, one unit after the other.
-pub fn fill(engines: u64, services: &[u32], periods: &[u32]) -> Result<Block, Refused> {
+/// How block lengths are taken. All but `Published` are errors that look right, planted to see that they are seen.
+#[derive(Clone, Copy, PartialEq, Eq)]
+pub enum Lengths {
+    Published,
+    /// The builder takes the greatest length, whatever is asked for.
+    Ignored,
+    /// The builder looks for 24 after 6 and 7, as its number has it.
+    LookedForLate,
+    /// The judge accepts the greatest length alone.
+    GreatestAlone,
+}
+
+/// Whether so many ticks divide every period.
+fn divides(ticks: u64, duties: &[Duty]) -> bool {
+    duties.iter().all(|&(_, d)| d % ticks == 0)
+}
+
+/// The block length that the builder takes: for 0 the greatest, else what is wanted, or 24.
+fn block_length(duties: &[Duty], wanted: u64, lengths: Lengths) -> Result<u64, Refused> {
+    if wanted == 0 || lengths == Lengths::Ignored {
+        return Ok(common_divisor(duties.iter().map(|x| x.1)));
+    }
+    if divides(wanted, duties) {
+        Ok(wanted)
+    } else {
+        Err((24, 0))
+    }
+}
+
+/// Whether the judge accepts a block length.
+fn accepts(ticks: u64, duties: &[Duty], lengths: Lengths) -> bool {
+    match lengths {
+        Lengths::GreatestAlone => ticks == common_divisor(duties.iter().map(|x| x.1)),
+        _ => divides(ticks, duties),
+    }
+}
+
+/// Fills one block of the wanted length from the duties, one unit after the other.
+pub fn fill(engines: u64, services: &[u32], periods: &[u32], wanted: u32, lengths: Lengths) -> Result<Block, Refused> {
     let duties = duties(engines, services, periods)?;
-    let ticks = common_divisor(duties.iter().map(|x| x.1));
+    let told = block_length(&duties, wanted as u64, lengths);
+    let ticks = match told {
+        Err(_) if lengths == Lengths::LookedForLate => block_length(&duties, 0, lengths)?,
+        told => told?,
+    };
     for (i, &(c, d)) in duties.iter().enumerate() {
         if c % (d / ticks) != 0 {
             return Err((6, i as u64));
         }
     }
-    let wanted: u64 = duties.iter().map(|&(c, d)| c / (d / ticks)).sum();
-    if wanted > engines * ticks {
+    let needed: u64 = duties.iter().map(|&(c, d)| c / (d / ticks)).sum();
+    if needed > engines * ticks {
         return Err((7, 0));
     }
+    told?;
     let mut rows = vec![vec![None; ticks as usize]; engines as usize];
     let mut place = 0u64;
     for (i, &(c, d)) in duties.iter().enumerate() {
@@ -107,8 +149,15 @@ pub fn bytes(ticks: u64, engines: u64, duties: &[Duty], runs: &[(u64, u64, u64, 
 }
 
 /// What was built: the bytes, or the refusal.
-pub fn build(engines: u64, services: &[u32], periods: &[u32], room: usize) -> Result<Vec<u8>, Refused> {
-    let block = fill(engines, services, periods)?;
+pub fn build(
+    engines: u64,
+    services: &[u32],
+    periods: &[u32],
+    wanted: u32,
+    room: usize,
+    lengths: Lengths,
+) -> Result<Vec<u8>, Refused> {
+    let block = fill(engines, services, periods, wanted, lengths)?;
     let table = bytes(block.ticks, engines, &block.duties, &runs(&block));
     if table.len() > room {
         return Err((8, table.len() as u64));
@@ -121,7 +170,7 @@ fn number(b: &[u8]) -> u64 {
 }
 
 /// Reads any bytes and fills the block that they describe, unit by unit, or finds the fault.
-pub fn judge(b: &[u8]) -> Result<Block, Refused> {
+pub fn judge(b: &[u8], lengths: Lengths) -> Result<Block, Refused> {
     let form = |at: usize| Err((10, at as u64));
     if b.len() < 7 || b[0] != 1 {
         return form(0);
@@ -162,7 +211,7 @@ pub fn judge(b: &[u8]) -> Result<Block, Refused> {
     if b.len() > at + 3 {
         return form(at + 3);
     }
-    if ticks != common_divisor(duties.iter().map(|x| x.1)) {
+    if !accepts(ticks, &duties, lengths) {
         return Err((11, 0));
     }
     if let Some(i) = duties.iter().position(|&(c, d)| c % (d / ticks) != 0) {

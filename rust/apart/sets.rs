@@ -1,19 +1,77 @@
-//! Duty sets and tables to try: valid ones, faulty ones, those at the edges of every range, and tables patched by hand.
+//! Duty sets and tables to try: valid ones, faulty ones, those at the edges of every range, in blocks as long as may be
+//! and in shorter ones, and tables patched by hand.
 
 use crate::random::Random;
 
-/// A duty set as the builder takes it.
+/// A duty set as the builder takes it, with the block length that is wanted; plans of shares take none.
 #[derive(Clone, Debug)]
 pub struct Set {
     pub engines: u32,
     pub services: Vec<u32>,
     pub periods: Vec<u32>,
+    pub block_length: u32,
 }
 
-/// A set with whole slices whose sum is at most, or seldom above, what the engines have; `most_ticks` is from 1 to
-/// 1,000,000.
+/// The greatest common divisor; 0 where there is no number but 0.
+fn greatest(numbers: impl IntoIterator<Item = u32>) -> u64 {
+    numbers.into_iter().fold(0, |a, b| {
+        let (mut a, mut b) = (a, b as u64);
+        while b != 0 {
+            (a, b) = (b, a % b);
+        }
+        a
+    })
+}
+
+/// A divisor of a number, 1 where it is 0.
+fn divisor(random: &mut Random, number: u64) -> u64 {
+    let number = number.max(1);
+    let low: Vec<u64> = (1..=number).take_while(|d| d * d <= number).filter(|d| number % d == 0).collect();
+    let one = one_from(random, &low);
+    if random.once_in(2) {
+        one
+    } else {
+        number / one
+    }
+}
+
+/// A length to ask for where slices are whole in blocks of `ticks`, and so in blocks of each multiple of it: mostly one
+/// that gets a table.
+fn whole_length(random: &mut Random, ticks: u64, periods: &[u32]) -> u32 {
+    match random.below(8) {
+        0 | 1 => 0,
+        2..=4 => ticks as u32,
+        5 => (ticks * divisor(random, greatest(periods.iter().copied()) / ticks)) as u32,
+        _ => any_length(random, periods),
+    }
+}
+
+/// A length to ask for, of any kind: the greatest, a divisor of it or 1; a divisor of one period, a multiple of the
+/// greatest, a number above every period, and others.
+fn any_length(random: &mut Random, periods: &[u32]) -> u32 {
+    let common = greatest(periods.iter().copied());
+    let most = periods.iter().copied().max().unwrap_or(0) as u64;
+    let one = periods.get(random.below(periods.len().max(1) as u64) as usize).map_or(0, |&d| d as u64);
+    let length = match random.below(10) {
+        0 => 0,
+        1 => 1,
+        2 => common,
+        3 | 4 => divisor(random, common),
+        5 => divisor(random, one),
+        6 => common * random.between(2, 4),
+        7 => most + random.between(1, 3),
+        8 => u32::MAX as u64,
+        _ => random.between(1, 2 * most + 1),
+    };
+    length.min(u32::MAX as u64) as u32
+}
+
+/// A set whose slices are whole in blocks of some length and add up to at most, or seldom above, what the engines have.
+/// That length divides every period; often so do two to six times it, so that it is not the greatest. `most_ticks`,
+/// from 1 to 1,000,000, is the most that both may be.
 pub fn whole_set(random: &mut Random, most_ticks: u64) -> Set {
-    let ticks = random.between(1, most_ticks);
+    let blocks = if random.once_in(3) { 1 } else { random.between(2, 6).min(most_ticks) };
+    let ticks = random.between(1, most_ticks / blocks);
     let engines = random.between(1, 32);
     let mut left = engines * ticks;
     let full = random.once_in(2);
@@ -23,18 +81,24 @@ pub fn whole_set(random: &mut Random, most_ticks: u64) -> Set {
             break;
         }
         let slice = if full { ticks - random.below(ticks.min(3)) } else { random.between(1, ticks) }.min(left);
-        let factor = random.between(1, 6.min(1_000_000 / ticks));
+        let factor = blocks * random.between(1, 6.min(1_000_000 / (ticks * blocks)));
         services.push((slice * factor) as u32);
         periods.push((ticks * factor) as u32);
         left -= slice;
     }
-    Set { engines: engines as u32, services, periods }
+    let block_length = whole_length(random, ticks, &periods);
+    Set { engines: engines as u32, services, periods, block_length }
 }
 
-/// A set with whole slices, changed so that it is at or past an edge of a range, or of random numbers.
+/// A set with whole slices, changed so that it is at or past an edge of a range, or of random numbers; it keeps the
+/// length that is wanted or has another.
 pub fn odd_set(random: &mut Random) -> Set {
     let set = whole_set(random, 40);
-    made_odd(random, set)
+    let mut set = made_odd(random, set);
+    if random.once_in(2) {
+        set.block_length = any_length(random, &set.periods);
+    }
+    set
 }
 
 /// Changes a set so that it is at or past an edge of a range, or of random numbers.
@@ -74,18 +138,21 @@ fn made_odd(random: &mut Random, mut set: Set) -> Set {
     set
 }
 
-/// Long chains: every row of many is split into the next.
+/// Long chains: every row of many is split into the next, in blocks of a whole period or of a part of it.
 pub fn chained_set(random: &mut Random) -> Set {
     let engines = random.between(2, 32);
     let ticks = random.between(engines + 1, 60);
+    let factor = if random.once_in(3) { 1 } else { random.between(2, 6) };
     let mut services = Vec::new();
     let mut left = engines * ticks;
     while left > 0 && services.len() < 63 {
         let slice = (ticks - 1).min(left);
-        services.push(slice as u32);
+        services.push((slice * factor) as u32);
         left -= slice;
     }
-    Set { engines: engines as u32, periods: vec![ticks as u32; services.len()], services }
+    let periods = vec![(ticks * factor) as u32; services.len()];
+    let block_length = whole_length(random, ticks, &periods);
+    Set { engines: engines as u32, services, periods, block_length }
 }
 
 /// How many blocks the sets of shares have up to the common multiple: numbers with many divisors, and the edge.
@@ -143,7 +210,7 @@ fn shares_of(random: &mut Random, ticks: u64, blocks: u64, count: u64) -> Set {
 
 fn set_of(engines: u64, duties: Vec<(u64, u64)>) -> Set {
     let (services, periods) = duties.into_iter().map(|(c, d)| (c as u32, d as u32)).unzip();
-    Set { engines: engines as u32, services, periods }
+    Set { engines: engines as u32, services, periods, block_length: 0 }
 }
 
 /// A set, mostly full, in which duties that need nearly a whole row stand last: they are passed over until they need
@@ -235,15 +302,15 @@ pub fn odd_share_set(random: &mut Random) -> Set {
 /// A run as a table has it: row, duty, first unit and length.
 pub type Run = (u8, u8, u32, u32);
 
-/// A table's bytes: duties with these services, each with the block as its period, and these runs.
-pub fn table_bytes(ticks: u32, engines: u8, services: &[u32], runs: &[Run]) -> Vec<u8> {
+/// A table's bytes: block length, engines, duties (service and period) and runs.
+pub fn table_bytes(ticks: u32, engines: u8, duties: &[(u32, u32)], runs: &[Run]) -> Vec<u8> {
     let mut b = vec![1];
     b.extend_from_slice(&ticks.to_le_bytes());
-    b.extend_from_slice(&[engines, services.len() as u8]);
-    for service in services {
+    b.extend_from_slice(&[engines, duties.len() as u8]);
+    for (service, period) in duties {
         b.push(2);
         b.extend_from_slice(&service.to_le_bytes());
-        b.extend_from_slice(&ticks.to_le_bytes());
+        b.extend_from_slice(&period.to_le_bytes());
     }
     for &(row, duty, first, length) in runs {
         b.extend_from_slice(&[3, row, duty]);
@@ -255,13 +322,24 @@ pub fn table_bytes(ticks: u32, engines: u8, services: &[u32], runs: &[Run]) -> V
     b
 }
 
+/// Duties with so many units of each block of `ticks`: their periods are one block or several, and in every second list
+/// all of them are several, so that the block is shorter than it might be.
+fn duties_with(random: &mut Random, ticks: u32, units: &[u32]) -> Vec<(u32, u32)> {
+    let common = if random.once_in(2) { 1 } else { random.between(2, 5) as u32 };
+    let duties = units.iter().map(|&units| {
+        let blocks = common * random.between(1, 4) as u32;
+        (units * blocks, ticks * blocks)
+    });
+    duties.collect()
+}
+
 /// A table with nothing wrong up to 13: its runs stand in order, and are drawn at random otherwise. Most start where the
 /// one before stops or later, some sooner; a long one may have many behind it that lie in it.
 pub fn ordered_table(random: &mut Random) -> Vec<u8> {
     let ticks = random.between(2, 60) as u32;
     let (engines, duties) = (random.between(1, 6) as u8, random.between(1, 8) as u8);
     let often = random.between(2, 40);
-    let services: Vec<u32> = (0..duties).map(|_| random.between(1, ticks as u64) as u32).collect();
+    let units: Vec<u32> = (0..duties).map(|_| random.between(1, ticks as u64) as u32).collect();
     let mut runs = Vec::new();
     for row in 0..engines {
         let mut first = random.below(4) as u32;
@@ -276,7 +354,7 @@ pub fn ordered_table(random: &mut Random) -> Vec<u8> {
             };
         }
     }
-    table_bytes(ticks, engines, &services, &runs)
+    table_bytes(ticks, engines, &duties_with(random, ticks, &units), &runs)
 }
 
 /// A table whose duties go from row to row within a block, so that a duty has many runs on many rows, in any order of
@@ -288,24 +366,24 @@ pub fn woven_table(random: &mut Random) -> Vec<u8> {
     while runs.is_empty() || runs.len() > 128 {
         runs = woven_runs(random, ticks, engines, duties);
     }
-    let mut services = vec![0; duties];
+    let mut units = vec![0; duties];
     for x in &runs {
-        services[x.1 as usize] += x.3;
+        units[x.1 as usize] += x.3;
     }
-    let with_units: Vec<usize> = (0..duties).filter(|&i| services[i] > 0).collect();
+    let with_units: Vec<usize> = (0..duties).filter(|&i| units[i] > 0).collect();
     for x in &mut runs {
         x.1 = with_units.iter().position(|&i| i == x.1 as usize).unwrap_or(0) as u8;
     }
-    services.retain(|&units| units > 0);
+    units.retain(|&n| n > 0);
     let k = random.below(runs.len() as u64) as usize;
     let (_, duty, first, length) = &mut runs[k];
     match random.below(6) {
         0 if *first + *length < ticks => *length += 1,
         1 if *first > 0 => (*first, *length) = (*first - 1, *length + 1),
-        2 => *duty = one_of(random, services.len() as u8),
+        2 => *duty = one_of(random, units.len() as u8),
         _ => {}
     }
-    table_bytes(ticks, engines as u8, &services, &runs)
+    table_bytes(ticks, engines as u8, &duties_with(random, ticks, &units), &runs)
 }
 
 /// The runs of a block in which from unit to unit two rows may change what they hold, and one may stop or take up a duty
@@ -335,8 +413,9 @@ fn woven_runs(random: &mut Random, ticks: u32, engines: usize, duties: usize) ->
     rows.concat()
 }
 
-/// Changes bytes of a table: fields of a record set to other values, records swapped or doubled, cuts and additions.
-/// It takes any bytes, since each change works on what the one before has left. Where there are none it leaves none.
+/// Changes bytes of a table: fields of a record set to other values, records swapped or doubled, cuts and additions,
+/// other block lengths and periods. It takes any bytes, since each change works on what the one before has left. Where
+/// there are none it leaves none.
 pub fn patch(random: &mut Random, table: &[u8]) -> Vec<u8> {
     let mut b = table.to_vec();
     if b.is_empty() {
@@ -344,13 +423,14 @@ pub fn patch(random: &mut Random, table: &[u8]) -> Vec<u8> {
     }
     for _ in 0..random.between(1, 3) {
         let at = random.below(b.len() as u64) as usize;
-        match random.below(9) {
+        match random.below(12) {
             0 => b[at] = random.below(256) as u8,
             1 => b[at] ^= 1 << random.below(8),
             2 => b[at] = b[at].wrapping_add(1),
             3 => b[at] = b[at].wrapping_sub(1),
             4 => b.truncate(at + 1),
             5 => b.push(random.below(256) as u8),
+            6..=8 => patch_length(random, &mut b),
             _ => patch_run(random, &mut b),
         }
     }
@@ -360,6 +440,46 @@ pub fn patch(random: &mut Random, table: &[u8]) -> Vec<u8> {
 /// A row or duty for a run to name, out of as many as the head tells of. A patched head may tell of none: then it is 0.
 fn one_of(random: &mut Random, told: u8) -> u8 {
     random.below(told.max(1) as u64) as u8
+}
+
+/// The number in the four bytes from `at` on, which are there.
+fn number_at(b: &[u8], at: usize) -> u32 {
+    u32::from_le_bytes([b[at], b[at + 1], b[at + 2], b[at + 3]])
+}
+
+/// Multiplies the number in the four bytes from `at` on, which are there; past 2^32 - 1 it is that.
+fn multiply_at(b: &mut [u8], at: usize, factor: u32) {
+    let product = number_at(b, at).saturating_mul(factor);
+    b[at..at + 4].copy_from_slice(&product.to_le_bytes());
+}
+
+/// Changes the block length to a divisor or a multiple; or all duties, or one, so that a period has more blocks and the
+/// units of a block stay; or one period to any length. A table whose duties cannot be found stays.
+fn patch_length(random: &mut Random, b: &mut [u8]) {
+    let Some(duties) = duty_places(b) else { return };
+    let ticks = number_at(b, 1);
+    let Some(&one) = duties.get(random.below(duties.len().max(1) as u64) as usize) else { return };
+    let factor = random.between(2, 5) as u32;
+    let mut put = |at: usize, number: u32| b[at..at + 4].copy_from_slice(&number.to_le_bytes());
+    match random.below(8) {
+        0 => put(1, divisor(random, ticks as u64) as u32),
+        1 => multiply_at(b, 1, factor),
+        2 => put(one + 5, random.between(1, 4 * ticks as u64 + 1) as u32),
+        3 => [one + 1, one + 5].into_iter().for_each(|at| multiply_at(b, at, factor)),
+        _ => duties.iter().flat_map(|at| [at + 1, at + 5]).for_each(|at| multiply_at(b, at, factor)),
+    }
+}
+
+/// Where the duty records of a table stand, if it has as many as its head tells of.
+fn duty_places(b: &[u8]) -> Option<Vec<usize>> {
+    let places: Vec<usize> = (0..*b.get(6)? as usize).map(|i| 7 + 9 * i).collect();
+    places.iter().all(|&at| b.len() >= at + 9 && b[at] == 2).then_some(places)
+}
+
+/// Whether an accepted table has blocks that are shorter than its periods' greatest common divisor.
+pub fn is_shorter(b: &[u8]) -> bool {
+    let periods = duty_places(b).unwrap_or_default().into_iter().map(|at| number_at(b, at + 5));
+    (number_at(b, 1) as u64) < greatest(periods)
 }
 
 /// Changes one run, or two, of a table whose records can still be found; the head may say anything.

@@ -163,11 +163,11 @@ fn shares_in_lanes(blocks: u32, n: usize) {
     question_of_shares(&name, blocks, n, lanes::share_at);
 }
 
-/// A table that is accepted, of these runs in blocks of 1,000 ticks.
+/// A table that is accepted, of these runs in blocks of 1,000 ticks; each period is a block.
 fn table(engines: u8, duties: usize, runs: &[sets::Run]) -> Vec<u8> {
     let units = |duty| runs.iter().filter(|x| x.1 as usize == duty).map(|x| x.3).sum();
-    let services: Vec<u32> = (0..duties).map(units).collect();
-    let b = sets::table_bytes(1000, engines, &services, runs);
+    let duties: Vec<_> = (0..duties).map(|duty| (units(duty), 1000)).collect();
+    let b = sets::table_bytes(1000, engines, &duties, runs);
     assert!(calls::judge(&b).is_ok(), "{:?}", calls::judge(&b));
     b
 }

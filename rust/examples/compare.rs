@@ -1,13 +1,15 @@
 //! The second program: compares the proved library with planners written apart that fill blocks tick by tick, on many
 //! sets and patched tables, on as many tables whose runs are in order but lie in one another, on as many whose duties go
-//! from row to row, and on as many sets for plans of shares.
+//! from row to row, and on as many sets for plans of shares. Blocks have the periods' greatest common divisor or are
+//! shorter.
 //!
 //!     cargo run --release --example compare -- [SETS] [--plant ERROR]
 //!
 //! It says how many it compared and which refusals, chain lengths and causes of 23 it met, and ends with status 1 at
 //! the first difference, or where it did not meet all of them. With --plant the second planner has an error that looks
-//! right, which must be seen: backwards, one-ring or never in how rows move; last-chosen, forgets-need or negative-as-0
-//! in the steps for shares.
+//! right, which must be seen: backwards, one-ring or never in how rows move; ignores-length or length-late in how the
+//! builder takes a block length, greatest-alone in how the judge does; last-chosen, forgets-need or negative-as-0 in
+//! the steps for shares.
 
 #[path = "../apart/filler.rs"]
 mod filler;
@@ -20,7 +22,7 @@ mod shares;
 #[path = "compare/shares.rs"]
 mod shares_compared;
 
-use filler::{Block, Refused, Turn, Walk};
+use filler::{Block, Lengths, Refused, Turn, Walk};
 use random::Random;
 use sets::Set;
 use shares::Steps;
@@ -34,6 +36,8 @@ struct Seen {
     sets: u64,
     tables: u64,
     accepted: u64,
+    /// Of these, how many have blocks that are shorter than their periods' greatest common divisor.
+    shorter: u64,
     questions: u64,
     counts: u64,
     states: u64,
@@ -47,8 +51,11 @@ struct Seen {
 #[derive(Clone, Copy)]
 struct Apart {
     turn: Turn,
+    lengths: Lengths,
     steps: Steps,
 }
+
+const PUBLISHED: Apart = Apart { turn: Turn::Published, lengths: Lengths::Published, steps: Steps::Published };
 
 fn as_pair(refusal: Refusal) -> Refused {
     (refusal.number, refusal.place)
@@ -64,16 +71,17 @@ fn differ<T>(
 }
 
 /// One duty set, with a buffer that is long enough, exact or one byte short.
-fn compare_set(seen: &mut Seen, random: &mut Random, set: &Set, turn: Turn) -> Result<(), String> {
-    let exact = filler::build(set.engines as u64, &set.services, &set.periods, usize::MAX);
-    let room = match (&exact, random.below(3)) {
+fn compare_set(seen: &mut Seen, random: &mut Random, set: &Set, apart: Apart) -> Result<(), String> {
+    let Set { engines, services, periods, block_length } = set;
+    let built = |room| filler::build(*engines as u64, services, periods, *block_length, room, apart.lengths);
+    let room = match (built(usize::MAX), random.below(3)) {
         (Ok(table), 0) => table.len(),
         (Ok(table), 1) if random.once_in(3) => table.len() - 1,
         _ => tickplume::MOST_BYTES,
     };
-    let theirs = filler::build(set.engines as u64, &set.services, &set.periods, room);
+    let theirs = built(room);
     let mut buffer = vec![0xa5u8; room];
-    let ours = calls::build(set.engines, &set.services, &set.periods, 0, &mut buffer).map_err(as_pair);
+    let ours = calls::build(*engines, services, periods, *block_length, &mut buffer).map_err(as_pair);
     seen.sets += 1;
     match (&ours, &theirs) {
         (Ok(n), Ok(table)) => {
@@ -82,10 +90,10 @@ fn compare_set(seen: &mut Seen, random: &mut Random, set: &Set, turn: Turn) -> R
             if *n != table.len() || buffer != whole {
                 return differ("build", &buffer, &whole, set);
             }
-            compare_table(seen, random, table, turn)?;
+            compare_table(seen, random, table, apart)?;
             for _ in 0..2 {
                 let patched = sets::patch(random, table);
-                compare_table(seen, random, &patched, turn)?;
+                compare_table(seen, random, &patched, apart)?;
             }
             Ok(())
         }
@@ -101,9 +109,9 @@ fn compare_set(seen: &mut Seen, random: &mut Random, set: &Set, turn: Turn) -> R
 }
 
 /// Any bytes: judged, and if accepted asked, dispatched and counted.
-fn compare_table(seen: &mut Seen, random: &mut Random, table: &[u8], turn: Turn) -> Result<(), String> {
+fn compare_table(seen: &mut Seen, random: &mut Random, table: &[u8], apart: Apart) -> Result<(), String> {
     seen.tables += 1;
-    let theirs = filler::judge(table);
+    let theirs = filler::judge(table, apart.lengths);
     let ours = calls::judge(table).map_err(as_pair);
     match (ours, theirs) {
         (Ok(reading), Ok(block)) => {
@@ -114,9 +122,10 @@ fn compare_table(seen: &mut Seen, random: &mut Random, table: &[u8], turn: Turn)
                 return differ("judge", told, counted, table);
             }
             seen.accepted += 1;
+            seen.shorter += sets::is_shorter(table) as u64;
             seen.chains.extend(filler::chains(&block));
             seen.block_lengths.insert(block.ticks);
-            compare_walk(seen, random, table, &block, turn)
+            compare_walk(seen, random, table, &block, apart.turn)
         }
         (Err(a), Err(b)) if a == b => {
             seen.refusals.insert(a.0);
@@ -229,6 +238,7 @@ impl Seen {
         self.sets += other.sets;
         self.tables += other.tables;
         self.accepted += other.accepted;
+        self.shorter += other.shorter;
         self.questions += other.questions;
         self.counts += other.counts;
         self.states += other.states;
@@ -238,10 +248,11 @@ impl Seen {
         self.shares.add(other.shares);
     }
 
-    /// Whether every refusal, chain length and cause was met.
+    /// Whether every refusal, chain length and cause was met, and blocks that are shorter than they might be.
     fn all(&self) -> bool {
-        (1..=8).chain(10..=21).all(|n| self.refusals.contains(&n))
+        (1..=8).chain(10..=21).chain([24]).all(|n| self.refusals.contains(&n))
             && (1..=32).all(|n| self.chains.contains(&n))
+            && self.shorter * 5 > self.accepted
             && self.shares.all()
     }
 }
@@ -263,11 +274,11 @@ fn part(seed: u64, sets: u64, apart: Apart) -> Result<Seen, String> {
             4 | 5 => sets::chained_set(&mut random),
             _ => sets::odd_set(&mut random),
         };
-        compare_set(&mut seen, &mut random, &set, apart.turn)?;
+        compare_set(&mut seen, &mut random, &set, apart)?;
         let table = sets::ordered_table(&mut ordered);
-        compare_table(&mut seen, &mut ordered, &table, apart.turn)?;
+        compare_table(&mut seen, &mut ordered, &table, apart)?;
         let table = sets::woven_table(&mut woven);
-        compare_table(&mut seen, &mut woven, &table, apart.turn)?;
+        compare_table(&mut seen, &mut woven, &table, apart)?;
         let set = shares_compared::draw(&mut other, k);
         shares_compared::compare(&mut seen.shares, &mut other, &set, apart.steps)?;
     }
@@ -290,12 +301,16 @@ fn run(sets: u64, apart: Apart) -> Result<Seen, String> {
 
 /// The second program with the error of this name.
 fn planted(name: &str) -> Apart {
-    let turned = |turn| Apart { turn, steps: Steps::Published };
-    let stepped = |steps| Apart { turn: Turn::Published, steps };
+    let turned = |turn| Apart { turn, ..PUBLISHED };
+    let measured = |lengths| Apart { lengths, ..PUBLISHED };
+    let stepped = |steps| Apart { steps, ..PUBLISHED };
     match name {
         "backwards" => turned(Turn::Backwards),
         "one-ring" => turned(Turn::OneRing),
         "never" => turned(Turn::Never),
+        "ignores-length" => measured(Lengths::Ignored),
+        "length-late" => measured(Lengths::LookedForLate),
+        "greatest-alone" => measured(Lengths::GreatestAlone),
         "last-chosen" => stepped(Steps::LastChosen),
         "forgets-need" => stepped(Steps::ForgetsNeed),
         "negative-as-0" => stepped(Steps::NegativeAsZero),
@@ -305,7 +320,7 @@ fn planted(name: &str) -> Apart {
 
 fn main() {
     let mut sets = 2400;
-    let mut apart = Apart { turn: Turn::Published, steps: Steps::Published };
+    let mut apart = PUBLISHED;
     let mut words = std::env::args().skip(1);
     while let Some(word) = words.next() {
         match word.as_str() {
@@ -323,7 +338,7 @@ fn main() {
                 "compared {} sets, {} tables ({} accepted), {} questions, {} states, {} counts",
                 seen.sets, seen.tables, seen.accepted, seen.questions, seen.states, seen.counts
             );
-            println!("refusals met: {:?}", seen.refusals);
+            println!("refusals met: {:?}; accepted tables in shorter blocks: {}", seen.refusals, seen.shorter);
             println!("chain lengths met: {:?}; block lengths met: {}", seen.chains, seen.block_lengths.len());
             let shares = &seen.shares;
             println!(
@@ -332,7 +347,7 @@ fn main() {
             );
             println!("refusals met: {:?}; causes of 23, and how often: {:?}", shares.refusals, shares.causes);
             if !seen.all() {
-                println!("not every refusal, chain length and cause was met");
+                println!("not every refusal, chain length and cause was met, or few shorter blocks");
                 std::process::exit(1);
             }
         }

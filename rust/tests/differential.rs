@@ -1,7 +1,8 @@
 //! The library beside an independent implementation in plain Rust: random duty sets, valid, faulty and at the edges of
-//! every range; tables built, patched, cut, extended and bit-flipped, and tables whose runs are in order but lie in one
-//! another; questions near tick 0, anywhere and near 2^64; dispatcher states valid, stale and made up; counts up to
-//! 10^12; plans of shares, and questions about them.
+//! every range, with wanted block lengths that are the greatest, shorter or refused; tables built, patched, cut,
+//! extended and bit-flipped, and tables whose runs are in order but lie in one another; questions near tick 0, anywhere
+//! and near 2^64; dispatcher states valid, stale and made up; counts up to 10^12; plans of shares, and questions about
+//! them.
 //!
 //! TICKPLUME_COMPARISONS sets how many comparisons are made at the least, in all (200,000 by default). The seeds 1 to 8
 //! have equal shares of them, or TICKPLUME_SEED, any 64-bit number, has them all. Above 1,000,000 the progress is
@@ -39,6 +40,7 @@ fn setting(name: &str) -> Option<u64> {
 struct Comparison {
     made: u64,
     accepted: u64,
+    shorter: u64,
     plans: u64,
 }
 
@@ -92,8 +94,8 @@ impl Comparison {
         };
         let room = if random.once_in(4) { random.below(400) as usize } else { 2_000 };
         let (mut ours, mut theirs) = (vec![7u8; room], vec![7u8; room]);
-        let a = calls::build(set.engines, &set.services, &set.periods, 0, &mut ours).map_err(pair);
-        let b = plain::build(set.engines, &set.services, &set.periods, 0, &mut theirs);
+        let a = calls::build(set.engines, &set.services, &set.periods, set.block_length, &mut ours).map_err(pair);
+        let b = plain::build(set.engines, &set.services, &set.periods, set.block_length, &mut theirs);
         self.same("build", a, b, &set);
         self.same("the built bytes", &ours, &theirs, &set);
         a.ok().map(|n| ours[..n].to_vec())
@@ -130,6 +132,7 @@ impl Comparison {
         }
         let asked = if ours.is_ok() { 6 } else { 1 };
         self.accepted += ours.is_ok() as u64;
+        self.shorter += (ours.is_ok() && sets::is_shorter(table)) as u64;
         for _ in 0..asked {
             self.question(random, table);
             self.count(random, table);
@@ -252,9 +255,10 @@ fn the_library_and_plain_rust_agree() {
         comparison.draw(seed, wanted.div_ceil(seeds.len() as u64), wanted > 1_000_000);
     }
     println!(
-        "{} comparisons, {} accepted tables, {} plans of shares",
-        comparison.made, comparison.accepted, comparison.plans
+        "{} comparisons, {} accepted tables, {} of them in shorter blocks, {} plans of shares",
+        comparison.made, comparison.accepted, comparison.shorter, comparison.plans
     );
     assert!(comparison.accepted * 20 > comparison.made / 30, "too few accepted tables");
+    assert!(comparison.shorter * 5 > comparison.accepted, "too few tables in shorter blocks");
     assert!(comparison.plans * 20 > comparison.made / 30, "too few plans of shares");
 }

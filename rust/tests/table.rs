@@ -10,7 +10,7 @@ mod random;
 #[path = "../apart/sets.rs"]
 mod sets;
 
-use filler::{Turn, Walk};
+use filler::{Lengths, Turn, Walk};
 use random::Random;
 use std::collections::BTreeSet;
 use std::fmt::Display;
@@ -89,11 +89,14 @@ fn same_rows(table: &Table, block: &filler::Block) {
 fn lists_and_rows_are_those_of_the_planner_written_apart() {
     let mut random = Random::new(5);
     let (mut accepted, mut lengths) = (0, BTreeSet::new());
-    for k in 0..600 {
+    for k in 0..800 {
         let set = if k % 3 == 0 { sets::whole_set(&mut random, 24) } else { sets::chained_set(&mut random) };
-        let Ok(built) = filler::build(set.engines.into(), &set.services, &set.periods, usize::MAX) else { continue };
+        let sets::Set { engines, services, periods, block_length } = set;
+        let built = filler::build(engines.into(), &services, &periods, block_length, usize::MAX, Lengths::Published);
+        let Ok(built) = built else { continue };
         for bytes in [sets::patch(&mut random, &built), sets::patch(&mut random, &built), built] {
-            let (Ok(block), Ok(table)) = (filler::judge(&bytes), Table::try_from(&bytes[..])) else { continue };
+            let judged = filler::judge(&bytes, Lengths::Published);
+            let (Ok(block), Ok(table)) = (judged, Table::try_from(&bytes[..])) else { continue };
             same_lists(&table, &block);
             same_rows(&table, &block);
             accepted += 1;
