@@ -11,15 +11,25 @@ fn told<T: std::fmt::Debug>(result: Result<T, Refusal>) -> String {
     }
 }
 
-/// Builds with a buffer of so many bytes, each 0xa5, and says what became of it.
-fn build(name: &str, engines: u32, services: &[u32], periods: &[u32], room: usize) {
+/// Builds in blocks of the wanted length with a buffer of so many bytes, each 0xa5, and says what became of it. Where a
+/// length was wanted, it says what the table has.
+fn build_in(name: &str, engines: u32, services: &[u32], periods: &[u32], block_length: u32, room: usize) {
     let mut buffer = vec![0xa5; room];
-    let result = calls::build(engines, services, periods, 0, &mut buffer);
+    let result = calls::build(engines, services, periods, block_length, &mut buffer);
     let kept = match result {
         Ok(n) => buffer[n..].iter().all(|&x| x == 0xa5),
         Err(_) => buffer.iter().all(|&x| x == 0xa5),
     };
-    println!("build {name}: {}{}", told(result), if kept { "" } else { ", BYTES CHANGED" });
+    let reading = match result {
+        Ok(n) if block_length > 0 => format!(", {}", told(calls::judge(&buffer[..n]))),
+        _ => String::new(),
+    };
+    println!("build {name}: {}{reading}{}", told(result), if kept { "" } else { ", BYTES CHANGED" });
+}
+
+/// The same in blocks of the greatest length.
+fn build(name: &str, engines: u32, services: &[u32], periods: &[u32], room: usize) {
+    build_in(name, engines, services, periods, 0, room);
 }
 
 fn builds() {
@@ -45,6 +55,31 @@ fn builds() {
     build("one byte less", 2, &[2, 2, 2], &[3, 3, 3], 80);
     build("no buffer", 1, &[1], &[1], 0);
     build("no buffer, and no engines", 0, &[1], &[1], 0);
+}
+
+/// 24: wanted lengths that divide every period, some or none; slices that are whole in blocks of one length and not of
+/// another; and what is looked for before 24 and after it.
+fn lengths() {
+    for length in [0, 1, 2, 3, 4, 5, 6, 7, 12, u32::MAX] {
+        build_in(&format!("4 in every 6 three times, length {length}"), 2, &[4; 3], &[6; 3], length, MOST_BYTES);
+    }
+    for length in [1, 2, 3, 6, 9, 18] {
+        build_in(&format!("2 in every 6 and 3 in every 9, length {length}"), 1, &[2, 3], &[6, 9], length, MOST_BYTES);
+    }
+    for length in [1, 500_000, 1_000_000, 1_000_001] {
+        build_in(&format!("all of 1,000,000, length {length}"), 1, &[1_000_000], &[1_000_000], length, MOST_BYTES);
+    }
+    build_in("1 before 24", 0, &[6], &[6], 4, 0);
+    build_in("2 before 24", 1, &[6], &[6, 6], 4, 0);
+    build_in("3 before 24", 1, &[], &[], 4, 0);
+    build_in("4 before 24", 1, &[6, 6], &[6, 0], 4, 0);
+    build_in("5 before 24", 1, &[6, 7], &[6, 6], 4, 0);
+    build_in("24 before 6", 1, &[1, 6], &[4, 6], 3, 0);
+    build_in("6, in blocks of 2", 1, &[1, 6], &[4, 6], 2, 0);
+    build_in("24 before 7", 1, &[6, 6], &[6, 6], 4, 0);
+    build_in("7, in blocks of 3", 1, &[6, 6], &[6, 6], 3, 0);
+    build_in("24 before 8", 2, &[6, 6], &[6, 6], 4, 0);
+    build_in("8, in blocks of 3", 2, &[6, 6], &[6, 6], 3, 0);
 }
 
 /// A table written by hand.
@@ -150,7 +185,7 @@ type Fault = (&'static str, fn(&mut Hand));
 
 fn faults() {
     let each: [Fault; 7] = [
-        ("11", |h| h.duties.iter_mut().for_each(|x| x.1 *= 2)),
+        ("11", |h| h.duties[0] = (6, 9)), // 6 does not divide 9, but 6 · 6 / 9 is 4 again
         ("12", |h| h.duties[1].0 = 7),
         ("13", |h| h.runs.swap(2, 3)),
         ("14", |h| h.runs[1] = (0, 1, 3, 3)),
@@ -178,6 +213,32 @@ fn faults() {
             h.runs.last_mut().unwrap().3 = 0;
         });
     }
+}
+
+/// 11 and 12 by the block length: one that divides every period is accepted, be it the greatest or not.
+fn shorter() {
+    changed("every duty twice as long", |h| h.duties.iter_mut().for_each(|x| *x = (x.0 * 2, x.1 * 2)));
+    changed("every period twice as long", |h| h.duties.iter_mut().for_each(|x| x.1 *= 2));
+    changed("the last period five ticks longer", |h| h.duties[2].1 += 5);
+    changed("the last period six ticks longer, and its service one", |h| h.duties[2] = (3, 18));
+    changed("twice the greatest block length", |h| h.ticks = 12);
+    let halved = |h: &mut Hand| {
+        h.ticks = 3;
+        h.runs = vec![(0, 0, 0, 2), (0, 1, 2, 1), (1, 1, 0, 1), (1, 2, 1, 1)];
+    };
+    changed("half the block, in which duty 2 has half a unit", halved);
+    changed("half the block, in which it has a whole one", |h| {
+        halved(h);
+        h.duties[2] = (4, 12);
+    });
+    let hand = Hand {
+        ticks: 1,
+        engines: 2,
+        duties: vec![(6, 6), (4, 4)],
+        runs: vec![(0, 0, 0, 1), (1, 1, 0, 1)],
+        count: None,
+    };
+    judge("blocks of one tick, periods of 6 and 4", &hand.bytes());
 }
 
 /// 14 where two runs only touch, and where runs lie in one that is not the run before them.
@@ -237,8 +298,10 @@ fn asked() {
 
 fn main() {
     builds();
+    lengths();
     forms();
     faults();
+    shorter();
     rows();
     woven();
     asked();

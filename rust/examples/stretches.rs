@@ -38,9 +38,13 @@ fn show(name: &str, table: &[u8]) {
     println!("  loads over 0 to 5, 420 and 10^12 blocks: {loads:?}");
 }
 
-fn planned(name: &str, engines: u32, duties: &[(u32, u32)]) {
+fn planned_in(name: &str, engines: u32, duties: &[(u32, u32)], block_length: u32) {
     let duties: Vec<Duty> = duties.iter().map(|&(service, period)| Duty { service, period }).collect();
-    show(name, Table::build(engines, &duties, 0).unwrap().as_bytes());
+    show(name, Table::build(engines, &duties, block_length).unwrap().as_bytes());
+}
+
+fn planned(name: &str, engines: u32, duties: &[(u32, u32)]) {
+    planned_in(name, engines, duties, 0);
 }
 
 /// A table written by hand: block length, engines, duties, runs (row, duty, first, length).
@@ -96,4 +100,6 @@ fn main() {
         &[(2, 4), (2, 4)],
         &[(0, 0, 0, 1), (0, 1, 3, 1), (1, 1, 0, 1), (1, 0, 3, 1)],
     );
+    planned_in("4 in every 6 three times, in blocks of 3: as P1", 2, &[(4, 6); 3], 3);
+    by_hand("blocks of a third of each period", 2, 2, &[(6, 6), (3, 6)], &[(0, 1, 0, 1), (0, 0, 1, 1), (1, 0, 0, 1)]);
 }
