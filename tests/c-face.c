@@ -306,20 +306,23 @@ static void compare_table(const bytes_t *bytes, uint64_t judged) {
     if (!judged) compare_lists(bytes, tickplume_table_judge(lent(bytes)));
 }
 
-/* A good table, and one for each refusal of the judge. */
+/* A good table, one in blocks of half the periods' greatest common divisor, and one for each refusal of the judge. */
 static void tables(void) {
     static const tickplume_duty_t duties[] = {{2, 3}, {2, 3}, {2, 3}}, part[] = {{2, 3}, {2, 3}, {1, 6}};
+    static const tickplume_duty_t twice[] = {{4, 6}, {8, 12}, {12, 18}}, other[] = {{4, 6}, {8, 12}, {2, 4}};
     static const run_t a = {0, 0, 0, 2}, b = {0, 1, 2, 1}, c = {1, 1, 0, 1}, d = {1, 2, 1, 2};
     static const run_t shared = {0, 1, 1, 1}, a1 = {0, 0, 0, 1}, a2 = {0, 0, 1, 1}, c2 = {1, 2, 0, 2}, d2 = {1, 1, 2, 1};
     static const run_t less = {1, 2, 1, 1}, past = {1, 2, 1, 3};
-    const bytes_t good = by_hand(3, duties, a, b, c, d);
+    const bytes_t good = by_hand(3, duties, a, b, c, d), shorter = by_hand(3, twice, a, b, c, d);
     bytes_t bad = good;
     compare_table(&good, 0);
+    compare_table(&shorter, 0);
     for (bad.length = 0; bad.length < 7; bad.length++) compare_table(&bad, refused(10, 0));
     bad.length = good.length - 1;
     compare_table(&bad, refused(10, good.length - 3));
     bad = by_hand(3, duties, a, b, c, past), compare_table(&bad, refused(10, good.length - 14));
     bad = by_hand(6, duties, a, b, c, d), compare_table(&bad, refused(11, 0));
+    bad = by_hand(3, other, a, b, c, d), compare_table(&bad, refused(11, 0));
     bad = by_hand(3, part, a, b, c, d), compare_table(&bad, refused(12, 2));
     bad = by_hand(3, duties, a, b, d, c), compare_table(&bad, refused(13, 3));
     bad = by_hand(3, duties, a, shared, c, d), compare_table(&bad, refused(14, 1));
@@ -365,6 +368,8 @@ static const set_t sets[] = {
     {1, 1, {{0, 7}}},
     {1, 1, {{UINT32_MAX, UINT32_MAX}}},
     {2, 2, {{1, 4}, {2, 6}}},
+    {2, 3, {{4, 6}, {8, 12}, {12, 18}}},
+    {2, 3, {{12, 12}, {6, 6}, {6, 12}}},
     {1, 2, {{1, 1}, {1, 1}}},
     {3, 6, {{6, 10}, {11, 20}, {23, 30}, {6, 20}, {5, 30}, {37, 60}}},
     {1, 3, {{1, 2}, {1, 6}, {1, 3}}},
@@ -382,19 +387,20 @@ static pair_t pair_of(const set_t *set) {
     return pair;
 }
 
-static void compare_build(const set_t *set, size_t room_len) {
+static void compare_build(const set_t *set, uint32_t block_length, size_t room_len) {
     const pair_t pair = pair_of(set);
     uint8_t room[ROOM], raw[ROOM];
     uint64_t length = 0, word;
     tickplume_built_t built;
     memset(room, PAINT, sizeof room), memset(raw, PAINT, sizeof raw);
-    built = tickplume_table_build(set->engines, set->duties, set->length, 0, room, room_len);
-    word = tickplume_build(set->engines, pair.services, set->length, pair.periods, set->length, 0, raw, room_len, &length, 1);
+    built = tickplume_table_build(set->engines, set->duties, set->length, block_length, room, room_len);
+    word = tickplume_build(set->engines, pair.services, set->length, pair.periods, set->length, block_length, raw, room_len, &length, 1);
     CHECK(word_of(built.refusal) == word);
     CHECK(built.table.length == length);
     CHECK(built.table.bytes == (word ? NULL : room));
     CHECK(memcmp(room, raw, sizeof room) == 0);
     CHECK(painted(room + length, sizeof room - length));
+    if (!word && block_length) CHECK(tickplume_table_judge(built.table).block_length == block_length);
 }
 
 static void compare_shares(const set_t *set, size_t allotments_len) {
@@ -429,8 +435,10 @@ static void compare_share_questions(const set_t *set) {
 
 static void duty_sets(void) {
     static const size_t rooms[] = {0, 29, 30, 80, 81, TICKPLUME_MOST_BYTES, ROOM}, entries[] = {0, 1, 35, 36, SOME, SOME + SPARE};
+    static const uint32_t lengths[] = {0, 1, 2, 3, 4, 5, 6, 12, TICKPLUME_MOST_TICKS, UINT32_MAX};
     for (size_t i = 0; i < SIZE_OF(sets); i++) {
-        for (size_t k = 0; k < SIZE_OF(rooms); k++) compare_build(&sets[i], rooms[k]);
+        for (size_t k = 0; k < SIZE_OF(rooms) * SIZE_OF(lengths); k++)
+            compare_build(&sets[i], lengths[k / SIZE_OF(rooms)], rooms[k % SIZE_OF(rooms)]);
         for (size_t k = 0; k < SIZE_OF(entries); k++) compare_shares(&sets[i], entries[k]);
         compare_share_questions(&sets[i]);
     }
@@ -446,7 +454,8 @@ static void many_duties(void) {
         uint8_t room[TICKPLUME_MOST_BYTES];
         CHECK(tickplume_table_build(1, many.duties, many.length, 0, room, sizeof room).refusal.kind == kind);
         CHECK(tickplume_shares_at(1, many.duties, many.length, tickplume_engine(0), 0).refusal.kind == kind);
-        compare_build(&many, ROOM);
+        compare_build(&many, 0, ROOM);
+        compare_build(&many, 64, ROOM);
         compare_shares(&many, SOME);
     }
 }
@@ -463,6 +472,7 @@ static void null_lists(void) {
     CHECK(word_of(tickplume_table_build(2, NULL, 3, 0, room, sizeof room).refusal) == refused(3, 0));
     CHECK(word_of(tickplume_table_build(2, NULL, 0, 0, NULL, 9).refusal) == refused(3, 0));
     CHECK(word_of(tickplume_table_build(2, duties, 3, 0, NULL, sizeof room).refusal) == refused(8, 81));
+    CHECK(word_of(tickplume_table_build(2, duties, 3, 2, NULL, sizeof room).refusal) == refused(24, 0));
     CHECK(word_of(tickplume_table_judge(none).refusal) == refused(10, 0));
     CHECK(word_of(tickplume_table_at(none, tickplume_engine(0), 0).refusal) == refused(10, 0));
     CHECK(word_of(tickplume_table_loads(none, 0).refusal) == refused(10, 0));
@@ -538,6 +548,7 @@ static void short_first(void) {
     uint32_t allotments[1] = {0};
     memset(answer, PAINT, sizeof answer);
     CHECK(tickplume_build(0, none_lent, 0, none_lent, 1, 0, room, 1, answer, 0) == refused(255, 1));
+    CHECK(tickplume_build(2, twos, 3, threes, 3, 2, room, 1, answer, 0) == refused(255, 1));
     CHECK(tickplume_judge(room, 0, answer, 3) == refused(255, 4));
     CHECK(tickplume_question(room, 0, 99, 0, answer, 1) == refused(255, 2));
     CHECK(tickplume_start(room, 0, 0, answer, 32) == refused(255, 33));
@@ -549,6 +560,7 @@ static void short_first(void) {
     CHECK(tickplume_share_at(0, none_lent, 0, none_lent, 1, 99, 0, answer, 0) == refused(255, 1));
     CHECK(painted(answer, sizeof answer) && room[0] == PAINT && allotments[0] == 0);
     CHECK(tickplume_build(1, none_lent, 0, none_lent, 1, 0, room, 1, answer, 1) == refused(2, 0));
+    CHECK(tickplume_build(1, none_lent, 0, none_lent, 1, 7, room, 1, answer, 1) == refused(2, 0));
     CHECK(tickplume_shares(1, none_lent, 0, none_lent, 1, allotments, 1, answer, 3) == refused(2, 0));
     CHECK(tickplume_share_at(1, none_lent, 0, none_lent, 1, 0, 0, answer, 1) == refused(2, 0));
     met[2]++;
@@ -556,9 +568,13 @@ static void short_first(void) {
 
 /* ---- The order of refusals ---- */
 
-static uint64_t building(uint32_t engines, const tickplume_duty_t *duties, size_t length, size_t room_len) {
+static uint64_t building_in(uint32_t engines, const tickplume_duty_t *duties, size_t length, uint32_t block_length, size_t room_len) {
     uint8_t room[ROOM];
-    return word_of(tickplume_table_build(engines, duties, length, 0, room, room_len).refusal);
+    return word_of(tickplume_table_build(engines, duties, length, block_length, room, room_len).refusal);
+}
+
+static uint64_t building(uint32_t engines, const tickplume_duty_t *duties, size_t length, size_t room_len) {
+    return building_in(engines, duties, length, 0, room_len);
 }
 
 static uint64_t sharing(uint32_t engines, const tickplume_duty_t *duties, size_t length, size_t entries) {
@@ -593,6 +609,25 @@ static void order(void) {
     CHECK(asking(2, full, 2, 2) == refused(18, 0));
 }
 
+/* 24 stands after 5 and before 6: each list breaks 24 and what is looked for before it or after it. A length that divides every period is
+ * taken, and 6 and 7 are then said of that length. */
+static void order_of_lengths(void) {
+    static const tickplume_duty_t four[] = {{6, 6}, {6, 0}}, five[] = {{6, 6}, {7, 6}}, part[] = {{1, 4}, {6, 6}};
+    static const tickplume_duty_t full[] = {{6, 6}, {6, 6}}, two_thirds[] = {{4, 6}, {4, 6}, {4, 6}}, apart[] = {{2, 6}, {3, 9}};
+    CHECK(building_in(0, full, 2, 4, 0) == refused(1, 0) && building_in(1, full, 0, 4, 0) == refused(3, 0));
+    CHECK(building_in(1, four, 2, 4, 0) == refused(4, 1) && building_in(1, five, 2, 4, 0) == refused(5, 1));
+    CHECK(building_in(1, part, 2, 3, 0) == refused(24, 0) && building_in(1, part, 2, 2, 0) == refused(6, 0));
+    CHECK(building_in(1, full, 2, 4, 0) == refused(24, 0) && building_in(1, full, 2, 3, 0) == refused(7, 0));
+    CHECK(building_in(2, full, 2, 4, 0) == refused(24, 0) && building_in(2, full, 2, 3, 0) == refused(8, 50));
+    for (uint32_t length = 0; length < 100; length++) {
+        const uint64_t word = length % 3 == 0 && length <= 6 ? 0 : length < 3 ? refused(6, 0) : refused(24, 0);
+        CHECK(building_in(2, two_thirds, 3, length, ROOM) == word);
+    }
+    CHECK(building_in(2, two_thirds, 3, UINT32_MAX, ROOM) == refused(24, 0));
+    CHECK(building_in(1, apart, 2, 2, ROOM) == refused(24, 0) && building_in(1, apart, 2, 9, ROOM) == refused(24, 0));
+    CHECK(building_in(1, apart, 2, 3, ROOM) == 0 && building_in(1, apart, 2, 1, ROOM) == refused(6, 0));
+}
+
 /* ---- Limits ---- */
 
 /* A table of 64 duties and so many runs of one unit each. */
@@ -625,6 +660,9 @@ static void limits_of_tables(void) {
     CHECK(building(TICKPLUME_MOST_ENGINES, &duty, 1, ROOM) == 0 && building(TICKPLUME_MOST_ENGINES + 1, &duty, 1, ROOM) == refused(1, 0));
     duty.period++;
     CHECK(building(1, &duty, 1, ROOM) == refused(4, 0));
+    duty.service = duty.period = TICKPLUME_MOST_TICKS;
+    CHECK(building_in(1, &duty, 1, TICKPLUME_MOST_TICKS, ROOM) == 0 && building_in(1, &duty, 1, 1, ROOM) == 0);
+    CHECK(building_in(1, &duty, 1, TICKPLUME_MOST_TICKS + 1, ROOM) == refused(24, 0));
     for (int i = 0; i < TICKPLUME_MOST_DUTIES; i++) half[i].service = 33, half[i].period = 67;
     CHECK(building(TICKPLUME_MOST_ENGINES, half, TICKPLUME_MOST_DUTIES, TICKPLUME_MOST_BYTES) == 0);
 }
@@ -658,6 +696,7 @@ int main(void) {
     entries_needed();
     short_first();
     order();
+    order_of_lengths();
     limits_of_tables();
     limits_of_shares();
     for (unsigned number = 0; number < 256; number++)

@@ -98,9 +98,9 @@ static std::uint64_t refused(Call call) {
 
 static std::uint64_t word(tickplume_refusal_t refusal) { return refusal.kind + (refusal.place << 8); }
 
-static std::string said(std::uint32_t engines, std::initializer_list<Duty> duties) {
+static std::string said(std::uint32_t engines, std::initializer_list<Duty> duties, std::uint32_t block_length = 0) {
     try {
-        Table::build(engines, duties);
+        Table::build(engines, duties, block_length);
     } catch (const std::runtime_error &error) {
         return error.what();
     }
@@ -111,7 +111,8 @@ static void sentences() {
     CHECK(said(0, {{1, 1}}) == "refused 1: the number of engines is not between 1 and 32");
     CHECK(said(1, {{1, 1}, {1, 1}}) == "refused 7: the duties need more than the engines can serve");
     CHECK(said(2, {{1, 1}, {1, 4}, {2, 1000001}}) == "refused 4: a duty's period is not between 1 and 1,000,000 (duty 2)");
-    CHECK(said(2, {{2, 3}, {2, 3}}).empty());
+    CHECK(said(2, {{4, 6}, {4, 6}}, 4) == "refused 24: the wanted block length does not divide every period");
+    CHECK(said(2, {{2, 3}, {2, 3}}).empty() && said(2, {{4, 6}, {4, 6}}, 3).empty());
     try {
         Shares::build(1, {{1, 2}, {1, 6}, {1, 3}});
         CHECK(false);
@@ -134,7 +135,7 @@ static const std::vector<Set> &sets() {
         {0, {{1, 1}}}, {33, {}}, {1, {}}, {1, std::vector<Duty>(64, {1, 64})}, {1, std::vector<Duty>(65, {1, 100})},
         {1, std::vector<Duty>(1000, {1, 1000})}, {1, {{3, 2}, {1, 0}}}, {1, {{1, 0}, {3, 2}}}, {2, {{1, 4}, {2, 6}}},
         {1, {{1, 1}, {1, 1}}}, {3, {{6, 10}, {11, 20}, {23, 30}, {6, 20}, {5, 30}, {37, 60}}}, {1, {{1, 2}, {1, 6}, {1, 3}}},
-        {1, {{1, 4097}, {1, 1}}}, {2, {{1, 4096}, {1, 1}}},
+        {1, {{1, 4097}, {1, 1}}}, {2, {{1, 4096}, {1, 1}}}, {2, {{4, 6}, {8, 12}, {12, 18}}}, {2, {{12, 12}, {6, 6}, {6, 12}}},
     };
     return all;
 }
@@ -198,24 +199,40 @@ static void compare_dispatcher(const Table &table, tickplume_table_t lent) {
     }
 }
 
+// A set in blocks of a wanted length.
+static void compare_built(const Set &set, std::uint32_t block_length) {
+    std::vector<tickplume_duty_t> list;
+    for (const Duty &duty : set.duties) list.push_back({duty.service, duty.period});
+    std::uint8_t room[TICKPLUME_MOST_BYTES];
+    const tickplume_built_t built = tickplume_table_build(set.engines, list.data(), list.size(), block_length, room, sizeof room);
+    CHECK(refused([&] { Table::build(set.engines, set.duties, block_length); }) == word(built.refusal));
+    CHECK(refused([&] { Table::build(set.engines, set.duties.data(), set.duties.size(), block_length); }) == word(built.refusal));
+    if (built.refusal.kind) return;
+    const Table table = Table::build(set.engines, set.duties, block_length);
+    const tickplume_reading_t reading = tickplume_table_judge(built.table);
+    CHECK(table.bytes() == std::vector<std::uint8_t>(room, room + built.table.length));
+    CHECK((table.reading() == Reading{reading.block_length, reading.engines, reading.duties, reading.runs}));
+    CHECK(!block_length || reading.block_length == block_length);
+    CHECK(table == Table::from_bytes(table.bytes()) && table == Table::from_bytes(room, built.table.length));
+    compare_questions(table, built.table);
+    compare_dispatcher(table, built.table);
+    compare_lists(table, set);
+}
+
 static void tables() {
-    for (const Set &set : sets()) {
-        std::vector<tickplume_duty_t> list;
-        for (const Duty &duty : set.duties) list.push_back({duty.service, duty.period});
-        std::uint8_t room[TICKPLUME_MOST_BYTES];
-        const tickplume_built_t built = tickplume_table_build(set.engines, list.data(), list.size(), 0, room, sizeof room);
-        CHECK(refused([&] { Table::build(set.engines, set.duties); }) == word(built.refusal));
-        CHECK(refused([&] { Table::build(set.engines, set.duties.data(), set.duties.size()); }) == word(built.refusal));
-        if (built.refusal.kind) continue;
-        const Table table = Table::build(set.engines, set.duties);
-        const tickplume_reading_t reading = tickplume_table_judge(built.table);
-        CHECK(table.bytes() == std::vector<std::uint8_t>(room, room + built.table.length));
-        CHECK((table.reading() == Reading{reading.block_length, reading.engines, reading.duties, reading.runs}));
-        CHECK(table == Table::from_bytes(table.bytes()) && table == Table::from_bytes(room, built.table.length));
-        compare_questions(table, built.table);
-        compare_dispatcher(table, built.table);
-        compare_lists(table, set);
-    }
+    for (const Set &set : sets())
+        for (std::uint32_t block_length : {0u, 1u, 2u, 3u, 4u, 6u, 7u, UINT32_MAX}) compare_built(set, block_length);
+}
+
+// Who names no length has the greatest, in each of the three ways to pass duties; and each takes a length.
+static void lengths() {
+    const std::vector<Duty> duties{{4, 6}, {8, 12}, {12, 18}};
+    const Table longest = Table::build(2, duties), shorter = Table::build(2, duties, 3);
+    CHECK(longest.reading().block_length == 6 && longest == Table::build(2, duties, 0) && longest == Table::build(2, duties, 6));
+    CHECK(longest == Table::build(2, duties.data(), 3) && longest == Table::build(2, {{4, 6}, {8, 12}, {12, 18}}));
+    CHECK(shorter.reading().block_length == 3 && shorter == Table::build(2, duties.data(), 3, 3) && shorter != longest);
+    CHECK(shorter == Table::build(2, {{4, 6}, {8, 12}, {12, 18}}, 3) && Table::build(1, {{4, 6}}, 3).reading().block_length == 3);
+    CHECK(shorter.runs().size() == longest.runs().size() && shorter.chains() == longest.chains());
 }
 
 static void compare_shares(const Shares &shares, const std::vector<tickplume_duty_t> &list, const std::vector<std::uint32_t> &allotments) {
@@ -310,13 +327,14 @@ int main() {
     values();
     sentences();
     tables();
+    lengths();
     known_lists();
     plans_of_shares();
     bytes_and_nulls();
     idle();
     by_hand();
     lifetimes();
-    CHECK((met == std::set<unsigned>{1, 3, 4, 5, 6, 7, 10, 18, 19, 20, 21, 22, 23}));
+    CHECK((met == std::set<unsigned>{1, 3, 4, 5, 6, 7, 10, 18, 19, 20, 21, 22, 23, 24}));
     if (failures) std::printf("%lu of %lu checks failed\n", failures, checks);
     return failures != 0;
 }

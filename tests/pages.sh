@@ -277,6 +277,9 @@ ask_itself() {
     for standard in c++11 c++20; do c++ -std=$standard $strict -x c++ examples/ask.c || fault "ask.c: warnings as $standard"; done
     ask_is 1 'refused 6 1' "ask: a duty's share of a block is not a whole number of ticks (duty 1)" build 2 1,1 1,2
     ask_is 1 'refused 18 0' 'ask: there is no such engine' share_at 1 1 1 1 0
+    ask_is 1 'refused 24 0' 'ask: the wanted block length does not divide every period' build 1 1 1 2
+    ask_is 1 'refused 8 30' 'ask: what was lent is shorter than what is to be written (needed 30)' build 1 1 1 0 29
+    ask_is 2 '' "ask: '4294967296': a number is too large here" build 1 1 1 4294967296
     ask_is 2 '' "ask: '01': a number is written in digits, without a leading zero" build 01 1 1
     ask_is 2 '' "ask: '4294967296': a number is too large here" build 4294967296 1 1
     ask_is 2 '' "ask: '1,': a list is numbers with a comma between" build 1 1, 1
