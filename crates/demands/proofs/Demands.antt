@@ -3,7 +3,7 @@
 -- Assumes nothing.
 use Prim.Native.Nat.{ℕ, _+_, _*_, _/_, _%_, _^_, _≤_, _<_, _∣_}
 use mathlib.Core.Path.{_≡_, refl}
-use mathlib.Core.List.{List}
+use mathlib.Core.List.{List, map}
 use mathlib.Core.Logic.{_↔_, _⊎_, inl, inr}
 use lib.ListN.{length}
 use Rattle.laws.specs.Choice.{one-if}
@@ -15,7 +15,7 @@ use Rattle.paper.specs.declared.Held.the-variants.{By}
 use Rattle.paper.specs.Duties.{engine, jobStart, dutyAt}
 use Rattle.paper.specs.Words.{row, blockLengthOf, Table, heldIn}
 use Rattle.paper.specs.Sa1.{sa1}
-use Rattle.paper.specs.Rotation.{link, nextOf, rowAt}
+use Rattle.paper.specs.Rotation.{link, nextOf, rowAt, chains}
 use Rattle.paper.specs.Walk.{walk, loads}
 use Rattle.paper.specs.Schedule.{given, served, load, loadsIn}
 use Rattle.paper.specs.Outcome.{Outcome, refused, answer, andThen, leaves}
@@ -35,9 +35,10 @@ use Rattle.paper.proofs.Passed.{From}
 use Rattle.plan_laws.proofs.TakenWhen.{WhenTaken, taken-when}
 use Rattle.plan_laws.proofs.PlanWhen.{When, plan-when, plan-greatest}
 use Rattle.plan_laws.proofs.Planned.{planned-sa1, planned-ticks, planned-wanted, WhenBuilt, built-when, built, built-accepted}
-use Rattle.table_laws.proofs.Rules.{Whole}
+use Rattle.table_laws.proofs.Rules.{Whole, Wholes}
 use Rattle.table_laws.proofs.Whole.{whole-longer}
 use Rattle.table_laws.proofs.AcceptedBytes.{accepted-ranged, accepted-meets, accepted-when}
+use Rattle.plan_laws.proofs.Shorter.{enlarged, runs-enlarged, chains-enlarged, walk-slowed}
 use Rattle.plan_laws.proofs.Listed.{Listed, build-listed, judged-listed, question-listed, start-listed, row-listed, next-listed}
 use Rattle.plan_laws.proofs.Listed.{BuildNumber, counted-listed, input-listed}
 use Rattle.paper.proofs.Calls.{advancedBy, question-is, start-is, row-is, row-strange, next-strange, next-all, counted-is}
@@ -93,6 +94,14 @@ build-exactly = built-when
 -- a shorter block never makes a slice whole that was not: what is whole for T is whole for every multiple of T
 pub shorter-never-mends : (t u : ℕ) (ds : List Duty) (i : ℕ) → t ∣ u → Whole t ds i → Whole u ds i
 shorter-never-mends = whole-longer
+
+-- and where slices are whole for T, the plan in blocks of k·T is the one in blocks of T, k times as slow: the same runs in large, the same
+-- chains, and at tick n each engine runs what it runs at tick n/k with the shorter blocks
+pub shorter-is-quicker :
+    (k t m : ℕ) (ds : List Duty) → 1 ≤ k → 1 ≤ t → Wholes t ds
+    → (sa1 (k * t) m ds .runs ≡ map (enlarged k) (sa1 t m ds .runs)) × (chains (sa1 (k * t) m ds) ≡ chains (sa1 t m ds))
+    × ((e : Engine) (n : ℕ) → walk (sa1 (k * t) m ds) e n ≡ walk (sa1 t m ds) e (n / k))
+shorter-is-quicker k t m ds a b w = (runs-enlarged k a t m ds b w, chains-enlarged k a t m ds b w, walk-slowed k a t m ds b w)
 
 -- what the builder writes is accepted and reads back as the plan of what was wanted, in blocks of the length that was meant
 pub record ReadsBack (wish : ℕ) (x : Wanted) (b : List ℕ) : Type 0 where

@@ -1,5 +1,5 @@
 -- Plans: SA1's runs, each duty's share of them, the line on which they lie, the table that they make; when what is wanted is taken, when it
--- is planned and when refused, what is planned; and which numbers and places each call refuses with.
+-- is planned and when refused, what is planned, also in shorter blocks; and which numbers and places each call refuses with.
 pub mod Sa1
 pub mod Sa1Shares
 pub mod Line
@@ -7,4 +7,5 @@ pub mod Sa1Table
 pub mod TakenWhen
 pub mod PlanWhen
 pub mod Planned
+pub mod Shorter
 pub mod Listed
