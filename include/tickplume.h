@@ -37,9 +37,9 @@
 #define TICKPLUME_CAST(type, value) ((type)(value))
 #endif
 
-#define TICKPLUME_VERSION "0.1.0"
+#define TICKPLUME_VERSION "0.2.0"
 #define TICKPLUME_VERSION_MAJOR 0
-#define TICKPLUME_VERSION_MINOR 1
+#define TICKPLUME_VERSION_MINOR 2
 #define TICKPLUME_VERSION_PATCH 0
 
 /* ---- Limits ---- */
