@@ -146,10 +146,6 @@ pub seek-miss : {test : ℕ → Bool} {n i : ℕ} → Seeking test n i → n ≤
 seek-miss {test} {n} {i} s h =
     let e : i ≡ n = le-antisymm (s .within) h in e ∙ sym (first-none test n (rw e at (s .clear)))
 
--- at the end of the range there is none
-pub seek-end : {test : ℕ → Bool} {n i : ℕ} → Seeking test n i → n ≤ i → any test n ≡ false
-seek-end {test} {n} s h = clear-none test n (λ k l. s .clear k (omega arith))
-
 -- ---- a loop that looks at each index with the one before it, from 1 on
 
 pub record Comparing (test : ℕ → ℕ → Bool) (k : ℕ) : Type 0 where
