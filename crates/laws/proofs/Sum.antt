@@ -4,15 +4,18 @@
 use Prim.Native.Nat.{ℕ, zero, suc, _+_, _*_, _-_, _≤_, _<_}
 use mathlib.Core.Path.{_≡_, refl, sym, ap, _∙_}
 use mathlib.Core.Bool.{Bool, true, _&&_}
+use mathlib.Core.List.{List, map}
 use native.Mathlib.Nat.{not-suc-le-zero, add-suc, add-zero, suc-mul, zero-mul, mul-zero}
 use native.Mathlib.Numerals.{add-one}
 use native.Mathlib.Omega.{arith}
 use lib.Dec.{eqb}
+use lib.ListN.{length, getD}
 use borrow.Author.Tests.{eq-eqb, ne-eqb}
 use Rattle.laws.specs.Choice.{one-if}
 use Rattle.laws.specs.Sum.{sumTo}
 use Rattle.laws.specs.Lists.{tab, sumOf}
 use Rattle.laws.proofs.Cases.{by-cases, lt-or-le, refuted}
+use Rattle.laws.proofs.Lists.{map-tab, tab-getD}
 use Rattle.laws.proofs.Decides.{spans, spans-decides, spans-not}
 
 -- the empty sum, and one summand more
@@ -50,6 +53,12 @@ unfolding sumTo
 sum-plus zero f g = refl
 sum-plus (suc n) f g = omega (arith, sum-plus n f g)
 
+-- the sum of multiples
+pub sum-times : (n c : ℕ) (f : ℕ → ℕ) → sumTo n (λ k. c * f k) ≡ c * sumTo n f
+unfolding sumTo
+sum-times zero c f = sym (mul-zero c)
+sum-times (suc n) c f = omega (arith, sum-times n c f)
+
 -- the same number n times
 pub sum-const : (n c : ℕ) → sumTo n (λ k. c) ≡ n * c
 unfolding sumTo
@@ -59,6 +68,13 @@ sum-const (suc n) c = omega (arith, sum-const n c, suc-mul n c)
 -- nothing n times
 pub sum-zero : (n : ℕ) (f : ℕ → ℕ) → ((k : ℕ) → k < n → f k ≡ 0) → sumTo n f ≡ 0
 sum-zero n f e = sum-ext n f (λ k. 0) e ∙ sum-const n 0 ∙ mul-zero n
+
+-- no summand is more than the sum
+pub sum-term : (n k : ℕ) (f : ℕ → ℕ) → k < n → f k ≤ sumTo n f
+sum-term zero k f h = absurd (not-suc-le-zero h)
+sum-term (suc n) k f h =
+    lt-or-le k n (λ l. omega (arith, sum-suc n f, sum-term n k f l))
+    (λ l. let p : k ≡ n = omega arith in omega (arith, sum-suc n f, ap f p))
 
 -- a sum over a + b numbers is that over a and that over the b after them
 pub sum-split : (a b : ℕ) (f : ℕ → ℕ) → sumTo (a + b) f ≡ sumTo a f + sumTo b (λ j. f (a + j))
@@ -106,6 +122,15 @@ count-once (suc n) f a =
     (λ p. omega (arith, sum-suc n c, ap one-if p, sum-zero n c (λ k l. ap one-if (refuted (f k) (λ q. a k n l (omega arith) q p)))))
     (λ p. omega (arith, sum-suc n c, ap one-if p, count-once n f (λ j k l h. a j k l (omega arith))))
 
+-- and where at most one counts, no two hold
+pub once-counted : (n : ℕ) (f : ℕ → Bool) → sumTo n (λ k. one-if (f k)) ≤ 1 → (j k : ℕ) → j < k → k < n → f j ≡ true → f k ≡ true → ⊥
+once-counted zero f a j k h l p q = not-suc-le-zero l
+once-counted (suc n) f a j k h l p q =
+    let c : ℕ → ℕ = λ i. one-if (f i) in
+    lt-or-le k n (λ b. once-counted n f (omega (arith, sum-suc n c)) j k h b p q)
+    (λ b. let e : n ≡ k = omega arith in
+    omega (arith, sum-suc n c, sum-term n j c (omega arith), ap c e, ap one-if p, ap one-if q))
+
 -- a stretch of l units from a on, with r units after it, has l units
 stretch : (a l r : ℕ) → sumTo (a + (l + r)) (λ u. one-if (spans a l u)) ≡ l
 stretch a l r =
@@ -138,3 +163,10 @@ pub sum-tab : (n : ℕ) (f : ℕ → ℕ) → sumOf (tab n f) ≡ sumTo n f
 unfolding tab sumOf
 sum-tab zero f = sym (sum-none f)
 sum-tab (suc n) f = omega (arith, sum-tab n (λ k. f (suc k)), sum-first n f)
+
+-- and of what is made of each entry of a list
+pub sum-map : {A : Type 0} (f : A → ℕ) (l : List A) (d : A) → sumOf (map f l) ≡ sumTo (length l) (λ k. f (getD l k d))
+sum-map f l d =
+    ap (λ y. sumOf (map f y)) (sym (tab-getD l d))
+    ∙ ap sumOf (map-tab f (length l) (λ k. getD l k d))
+    ∙ sum-tab (length l) (λ k. f (getD l k d))
