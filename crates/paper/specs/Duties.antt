@@ -1,10 +1,11 @@
 -- Document 01, "Words", what is served and what serves: duties with their jobs, engines, and what an engine has at a tick.
 -- Nothing here knows of blocks, rows or tables.
-use Prim.Native.Nat.{ℕ, _*_}
+use Prim.Native.Nat.{ℕ, _*_, _/_}
 use mathlib.Core.Bool.{Bool, true, false}
 use mathlib.Core.List.{List, map}
 use lib.Dec.{eqb}
-use lib.ListN.{getD}
+use lib.ListN.{length, getD}
+use Rattle.laws.specs.Sum.{sumTo}
 use Rattle.paper.specs.declared.Engine.{Engine}
 use Rattle.paper.specs.declared.Duty.{Duty}
 use Rattle.paper.specs.declared.Held.{Held}
@@ -32,6 +33,13 @@ periodsOf ds = map (λ x. x .period) ds
 -- "Its job q has the ticks from q·D up to, not including, (q+1)·D": the first of them; there are D
 abbrev pub jobStart : Duty → ℕ → ℕ
 jobStart x q = q * x .period
+
+-- the ticks that a duty asks for in h ticks, where its period divides h: C in every D; and all of them
+abbrev pub asks : ℕ → Duty → ℕ
+asks h x = x .service * (h / x .period)
+
+abbrev pub askedIn : ℕ → List Duty → ℕ
+askedIn h ds = sumTo (length ds) (λ i. asks h (dutyAt ds i))
 
 -- one duty holds both
 unfoldable pub same : Held → Held → Bool

@@ -5,7 +5,7 @@ use mathlib.Core.Path.{_≡_}
 use mathlib.Core.Bool.{Bool, not, _&&_, _||_}
 use mathlib.Core.List.{List}
 use lib.Dec.{ltb, eqb}
-use lib.ListN.{length, getD}
+use lib.ListN.{getD}
 use Rattle.laws.specs.Choice.{pick}
 use Rattle.laws.specs.Search.{first, any}
 use Rattle.laws.specs.Sum.{sumTo}
@@ -18,7 +18,7 @@ use Rattle.paper.specs.declared.SharesTold.{SharesTold}
 use Rattle.paper.specs.declared.SharesTold.the-variants.{Given, Refused as NotGiven}
 use Rattle.paper.specs.declared.ShareAnswer.{ShareAnswer}
 use Rattle.paper.specs.declared.ShareAnswer.the-variants.{Holds, Refused as NoAnswer}
-use Rattle.paper.specs.Duties.{periodsOf}
+use Rattle.paper.specs.Duties.{periodsOf, askedIn}
 use Rattle.paper.specs.Words.{row, heldIn, blockLengthOf}
 use Rattle.paper.specs.Schedule.{Schedule, loadsIn}
 use Rattle.paper.specs.Limits.{mostShareBlocks}
@@ -48,9 +48,9 @@ shareLoads s b = loadsIn (s .engines) (shareSchedule s) (b * s .ticks)
 
 -- ---- what 7 and 23 look at
 
--- "the sum of C/D is above the engines", over the common multiple: a duty has C units in each D of its ticks
+-- "the sum of C/D is above the engines": what the duties ask for up to the common multiple is more than the engines have there
 unfoldable pub overloaded : Sharing → Bool
-overloaded s = ltb (s .engines * common s) (sumTo (dutyCount s) (λ i. dutyOf s i .service * (common s / dutyOf s i .period)))
+overloaded s = ltb (s .engines * common s) (askedIn (common s) (s .duties))
 
 -- "the steps would give some duty fewer than 0 units or more than T", ..
 unfoldable pub offRange : Sharing → ℕ → ℕ → Bool

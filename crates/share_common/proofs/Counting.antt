@@ -15,6 +15,7 @@ use Rattle.laws.specs.Divisor.{lcmOf}
 use Rattle.laws.proofs.Cases.{by-cases, both-ways}
 use Rattle.laws.proofs.Multiple.{lcmOf-divided, lcmOf-positive}
 use Rattle.paper.specs.declared.Duty.{Duty}
+use Rattle.paper.specs.Duties.{askedIn}
 use Rattle.paper.specs.Outcome.{refused, answer}
 use Rattle.paper.specs.Wanted.{dutiesOf}
 use Rattle.paper.specs.Sa2.{Sharing, sharing}
@@ -22,7 +23,7 @@ use Rattle.paper.specs.Limits.{mostShareBlocks}
 use Rattle.paper.specs.Shares.{common, blocks, overloaded, sharable}
 use Rattle.plan_laws.proofs.Planned.{periods-back, duty-is}
 use Rattle.duty_lists.specs.Sliceable.{Sliceable}
-use Rattle.share_common.specs.Common.{Positive, Divided, loadOver, blocksOf}
+use Rattle.share_common.specs.Common.{Positive, Divided, blocksOf}
 
 -- more than so many blocks are more than their ticks, where the blocks fill the ticks
 blocks-ticks : (n t l : ℕ) → 0 < t → t ∣ l → ltb n (l / t) ≡ ltb (n * t) l
@@ -54,7 +55,7 @@ module _ (t m : ℕ) (ss ps : List ℕ) (fit : Sliceable t ss ps) where
   sharable-by :
       sharable s
       ≡ pick (ltb mostShareBlocks (blocks s)) (refused 22 0)
-      (pick (ltb (m * lcmOf ps) (loadOver (dutiesOf ss ps) (lcmOf ps))) (refused 7 0) (answer s))
+      (pick (ltb (m * lcmOf ps) (askedIn (lcmOf ps) (dutiesOf ss ps))) (refused 7 0) (answer s))
   unfolding sharable overloaded
   sharable-by = rw common-is
 
@@ -79,9 +80,9 @@ module _ (t m : ℕ) (ss ps : List ℕ) (fit : Sliceable t ss ps) where
           (λ p. absurd (omega (arith, rw p at told)))
           (λ p. (too-many-is ∙ p, rw p at told))
 
-      module _ (h : 0 < r) (over : Bool) (loaded : over ≡ ltb (m * r) (loadOver (dutiesOf ss ps) r)) where
-        over-is : ltb (m * lcmOf ps) (loadOver (dutiesOf ss ps) (lcmOf ps)) ≡ over
-        over-is = sym (loaded ∙ ap (λ (l : ℕ). ltb (m * l) (loadOver (dutiesOf ss ps) l)) (few h .1))
+      module _ (h : 0 < r) (over : Bool) (loaded : over ≡ ltb (m * r) (askedIn r (dutiesOf ss ps))) where
+        over-is : ltb (m * lcmOf ps) (askedIn (lcmOf ps) (dutiesOf ss ps)) ≡ over
+        over-is = sym (loaded ∙ ap (λ (l : ℕ). ltb (m * l) (askedIn l (dutiesOf ss ps))) (few h .1))
 
         -- 7
         pub too-much : over ≡ true → blocksOf s ≡ refused 7 0

@@ -1,10 +1,7 @@
--- The common multiple on the way: what is known of the periods, what the duties need over a common multiple, and what the blocks come to.
-use Prim.Native.Nat.{ℕ, _*_, _/_, _<_, _∣_}
+-- The common multiple on the way: what is known of the periods, and what the blocks come to.
+use Prim.Native.Nat.{ℕ, _<_, _∣_}
 use mathlib.Core.List.{List}
 use lib.ListN.{length, getD}
-use Rattle.laws.specs.Sum.{sumTo}
-use Rattle.paper.specs.declared.Duty.{Duty}
-use Rattle.paper.specs.Duties.{dutyAt}
 use Rattle.paper.specs.Outcome.{Outcome, answer, andThen, refusedAs}
 use Rattle.paper.specs.Sa2.{Sharing}
 use Rattle.paper.specs.Shares.{blocks, sharable}
@@ -18,13 +15,6 @@ Positive ps = (i : ℕ) → i < length ps → 0 < getD ps i 0
 -- the block length divides every period
 abbrev pub Divided : ℕ → List ℕ → Type 0
 Divided t ps = (i : ℕ) → i < length ps → t ∣ getD ps i 0
-
--- the units that a duty needs in so many ticks, a multiple of its period; and all of them
-abbrev pub loadAt : List Duty → ℕ → ℕ → ℕ
-loadAt ds l i = dutyAt ds i .service * (l / dutyAt ds i .period)
-
-abbrev pub loadOver : List Duty → ℕ → ℕ
-loadOver ds l = sumTo (length ds) (loadAt ds l)
 
 -- 22 or 7, else the blocks
 abbrev pub blocksOf : Sharing → Outcome ℕ

@@ -5,11 +5,12 @@ ghost use lib.Dec.{ltb};
 ghost use lib.ListN.{length};
 ghost use Rattle.laws.specs.Choice.{pick};
 ghost use Rattle.laws.specs.Divisor.{lcm, lcmOf};
+ghost use Rattle.paper.specs.Duties.{asks, askedIn};
 ghost use Rattle.paper.specs.Limits.{mostEngines, mostTicks, mostShareBlocks};
 ghost use Rattle.paper.specs.Wanted.{dutiesOf};
 ghost use Rattle.paper.specs.Sa2.{sharing};
 ghost use Rattle.duty_lists.specs.Sliceable.{Sliceable};
-ghost use Rattle.share_common.specs.Common.{Positive, Divided, loadOver, blocksOf, blocksAs};
+ghost use Rattle.share_common.specs.Common.{Positive, Divided, blocksOf, blocksAs};
 use duty_lists::duty_at;
 use paper::Duty;
 use paper::Refusal;
@@ -49,10 +50,10 @@ fn common_of(t: u32, periods: &[u32]) -> u32
     common
 }
 
-// The units that a duty needs in so many ticks, a multiple of its period: at most these ticks.
-fn load_of(x: Duty, ticks: u32) -> u64
+// The ticks that a duty asks for in so many, a multiple of its period: at most these.
+fn asked_of(x: Duty, ticks: u32) -> u64
     requires { ⌜ (0 < x .period) × (x .service ≤ x .period) ⌝ }
-    ensures { λ r. ⌜ (r ≡ x .service * (ticks / x .period)) × (r ≤ ticks) ⌝ }
+    ensures { λ r. ⌜ (r ≡ asks ticks x) × (r ≤ ticks) ⌝ }
 {
     x.service as u64 * (ticks / x.period) as u64
 }
@@ -60,15 +61,15 @@ fn load_of(x: Duty, ticks: u32) -> u64
 // Whether the duties need more than the engines have, over a common multiple of the periods.
 fn is_overload(t: u32, engines: u32, services: &[u32], periods: &[u32], common: u32) -> bool
     requires { ⌜ Sliceable t (now services) (now periods) × (engines ≤ mostEngines) ⌝ }
-    ensures { λ r. ⌜ r ≡ ltb (engines * common) (loadOver (dutiesOf (now (services .entry)) (now (periods .entry))) common) ⌝ }
+    ensures { λ r. ⌜ r ≡ ltb (engines * common) (askedIn common (dutiesOf (now (services .entry)) (now (periods .entry)))) ⌝ }
 {
-    let mut load: u64 = 0;
+    let mut asked: u64 = 0;
     let mut i = 0;
     while i < services.len() {
-        load += load_of(duty_at(services, periods, i), common);
+        asked += asked_of(duty_at(services, periods, i), common);
         i += 1;
     }
-    (engines as u64 * common as u64) < load
+    (engines as u64 * common as u64) < asked
 }
 
 // The blocks up to the common multiple: 22 where they are too many, then 7 where the duties need more than the engines have.

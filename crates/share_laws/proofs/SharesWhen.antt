@@ -2,42 +2,41 @@
 -- conditions, and they are gone through in order, so each outcome comes about exactly where the earlier conditions are clear and its own
 -- holds.
 -- Assumes nothing.
-use Prim.Native.Nat.{ℕ, _*_, _/_, _≤_, _<_}
+use Prim.Native.Nat.{ℕ, _*_, _≤_, _<_}
 use mathlib.Core.Path.{_≡_, refl, sym, ap, _∙_}
 use mathlib.Core.List.{List}
 use mathlib.Core.Logic.{_↔_}
 use lib.Dec.{ltb}
 use borrow.Author.Tests.{lt-ltb, le-ltb, ltb-true, ltb-false}
 use Rattle.laws.specs.Choice.{pick}
-use Rattle.laws.specs.Sum.{sumTo}
 use Rattle.laws.proofs.Cases.{by-cases}
 use Rattle.paper.specs.declared.Duty.{Duty}
 use Rattle.paper.specs.declared.Engine.{Engine}
 use Rattle.paper.specs.declared.Held.{Held}
+use Rattle.paper.specs.Duties.{askedIn}
 use Rattle.paper.specs.Words.{blockLengthOf}
 use Rattle.paper.specs.Outcome.{Outcome, refused, answer, andThen}
-use Rattle.paper.specs.Wanted.{Wanted, taken}
-use Rattle.paper.specs.Sa2.{Sharing, sharing, dutyCount, dutyOf}
+use Rattle.paper.specs.Wanted.{Wanted, dutySet, taken}
+use Rattle.paper.specs.Sa2.{Sharing, sharing}
 use Rattle.paper.specs.Limits.{mostShareBlocks}
 use Rattle.paper.specs.Shares.{common, blocks, shareSchedule, overloaded, failing, sharable, shared}
 use Rattle.paper.specs.Shares.{entriesNeeded, roomy, steady, sharePlan, shareQuestion}
 use Rattle.paper.proofs.Outcomes.{answered, answer-one, past}
 use Rattle.plan_laws.proofs.TakenWhen.{Taken, takes, taken-told}
-use Rattle.share_laws.proofs.Steps.{periodOf}
 use Rattle.share_laws.proofs.Blocks.{sharingOf}
 use Rattle.share_laws.proofs.GoodBlocks.{AllGood, LowestBad, failing-lowest, lowest-failing, none-failing}
 
 -- ---- the conditions
 
--- the units that all jobs up to the common multiple ask for, C for each D of it
-abbrev pub askedFor : Sharing → ℕ
-askedFor s = sumTo (dutyCount s) (λ i. dutyOf s i .service * (common s / periodOf s i))
+-- what the duties ask for up to the common multiple
+abbrev pub askedFor : Wanted → ℕ
+askedFor x = askedIn (common (sharingOf x)) (dutySet x)
 
 -- none of 1 to 5, 22 and 7
 pub record Sharable (x : Wanted) : Type 0 where
   pub taken : Taken x
   pub few : blocks (sharingOf x) ≤ mostShareBlocks
-  pub fit : askedFor (sharingOf x) ≤ x .engines * common (sharingOf x)
+  pub fit : askedFor x ≤ x .engines * common (sharingOf x)
 
 -- "No.", "When" and "Place" of refusals 22 and 7, which come after 1 to 5, and when there are blocks to share out
 pub data WhenShared (x : Wanted) (o : Outcome Sharing) : Type 0 where
@@ -47,7 +46,7 @@ pub data WhenShared (x : Wanted) (o : Outcome Sharing) : Type 0 where
   too-many-blocks : o ≡ refused 22 0 → Taken x → mostShareBlocks < blocks (sharingOf x) → WhenShared x o
   -- 7 the sum of C/D is above the engines
   too-much :
-      o ≡ refused 7 0 → Taken x → blocks (sharingOf x) ≤ mostShareBlocks → x .engines * common (sharingOf x) < askedFor (sharingOf x)
+      o ≡ refused 7 0 → Taken x → blocks (sharingOf x) ≤ mostShareBlocks → x .engines * common (sharingOf x) < askedFor x
       → WhenShared x o
   -- else the blocks
   all-shared : o ≡ answer (sharingOf x) → Sharable x → WhenShared x o
@@ -109,9 +108,9 @@ module _ (x : Wanted) where
       (λ h. too-many-blocks (q ∙ rw h) c (ltb-true mostShareBlocks (blocks s) h))
       (λ h.
       let few = ltb-false mostShareBlocks (blocks s) h in
-      by-cases (ltb (x .engines * common s) (askedFor s))
-      (λ k. too-much (q ∙ rw (h, k)) c few (ltb-true (x .engines * common s) (askedFor s) k))
-      (λ k. all-shared (q ∙ rw (h, k)) (record { taken = c; few = few; fit = ltb-false (x .engines * common s) (askedFor s) k })))
+      by-cases (ltb (x .engines * common s) (askedFor x))
+      (λ k. too-much (q ∙ rw (h, k)) c few (ltb-true (x .engines * common s) (askedFor x) k))
+      (λ k. all-shared (q ∙ rw (h, k)) (record { taken = c; few = few; fit = ltb-false (x .engines * common s) (askedFor x) k })))
 
   -- every outcome has its condition, ..
   shared-tells : (o : Outcome Sharing) → shared x ≡ o → WhenShared x o
@@ -134,9 +133,9 @@ module _ (x : Wanted) where
   told-shared o (not-taken n p h q) = rw h (sym q)
   told-shared o (too-many-blocks q c h) = past-taken c ∙ rw (lt-ltb mostShareBlocks (blocks s) h) (sym q)
   told-shared o (too-much q c f h) =
-      past-taken c ∙ rw (le-ltb mostShareBlocks (blocks s) f, lt-ltb (x .engines * common s) (askedFor s) h) (sym q)
+      past-taken c ∙ rw (le-ltb mostShareBlocks (blocks s) f, lt-ltb (x .engines * common s) (askedFor x) h) (sym q)
   told-shared o (all-shared q c) =
-      past-taken (c .taken) ∙ rw (le-ltb mostShareBlocks (blocks s) (c .few), le-ltb (x .engines * common s) (askedFor s) (c .fit)) (sym q)
+      past-taken (c .taken) ∙ rw (le-ltb mostShareBlocks (blocks s) (c .few), le-ltb (x .engines * common s) (askedFor x) (c .fit)) (sym q)
 
   pub shared-when : (o : Outcome Sharing) → (shared x ≡ o) ↔ WhenShared x o
   shared-when o = (shared-tells o, told-shared o)

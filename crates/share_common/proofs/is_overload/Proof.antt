@@ -1,7 +1,8 @@
--- `is_overload`: what the duties need is added up; none needs more than the ticks, so the sum of few of them fits 64 bits.
+-- `is_overload`: what the duties ask for is added up; none asks for more than the ticks, so the sum of few of them fits 64 bits.
 -- Assumes nothing.
-use Prim.Native.Nat.{ℕ, _*_, _/_, _-_, _^_, _≤_}
+use Prim.Native.Nat.{ℕ, _*_, _-_, _^_, _≤_}
 use mathlib.Core.Path.{_≡_, sym, ap, _∙_}
+use mathlib.Core.List.{List}
 use native.Mathlib.Nat.{mul-le-mul}
 use native.Mathlib.Omega.{arith}
 use borrow.Author.Needs.{needs}
@@ -10,27 +11,31 @@ use lib.ListN.{length}
 use Rattle.laws.specs.Sum.{sumTo}
 use Rattle.laws.proofs.Sum.{sum-none, sum-more}
 use Rattle.paper.specs.declared.Duty.{Duty}
+use Rattle.paper.specs.Duties.{dutyAt, asks}
 use Rattle.paper.specs.Limits.{mostEngines}
 use Rattle.paper.specs.Wanted.{dutiesOf}
 use Rattle.plan_laws.proofs.Planned.{length-duties}
-use Rattle.share_common.specs.Common.{loadAt}
 use Rattle.share_common.proofs.is_overload.Statement.{statement}
 use Rattle.share_common.proofs.is_overload.Tie as tie
 
+-- what each duty asks for
+abbrev asking : List Duty → ℕ → ℕ → ℕ
+asking ds common i = asks common (dutyAt ds i)
+
 abbrev Inv-loop : tie.InvT-loop
-Inv-loop t engines services periods common load₀ i₀ load i =
+Inv-loop t engines services periods common asked₀ i₀ asked i =
     (i ≤ length services)
-    × (load ≡ sumTo i (loadAt (dutiesOf services periods) common))
-    × (load ≤ (2 ^ 32 - 1) * i)
+    × (asked ≡ sumTo i (asking (dutiesOf services periods) common))
+    × (asked ≤ (2 ^ 32 - 1) * i)
 
 abbrev μ-loop : tie.MeasureT-loop
-μ-loop t engines services periods common load₀ i₀ load i = length services - i
+μ-loop t engines services periods common asked₀ i₀ asked i = length services - i
 
 loop-holds : tie.Need-loop-holds Inv-loop μ-loop
 loop-holds c = (search needs, sym (sum-none _), omega arith)
 
-load-of-requires : tie.Need-load-of-requires Inv-loop μ-loop
-load-of-requires c κs =
+asked-of-requires : tie.Need-asked-of-requires Inv-loop μ-loop
+asked-of-requires c κs =
     let at-loop = c .before .before in
     let z = at-loop .before .before .before .pre .0 .ranged (at-loop .loop .i) (search needs) in
     rw (c .duty-at .ensures) (z .period-least, z .service-most)
@@ -41,11 +46,11 @@ loop-again c =
     let i = at-loop .loop .i in
     let a = at-loop .before .before .before .args in
     let ds = dutiesOf (a .services .now) (a .periods .now) in
-    let here : c .load-of .result ≡ loadAt ds (a .common) i =
-    c .load-of .ensures .0 ∙ ap (λ (x : Duty). x .service * (a .common / x .period)) (c .before .duty-at .ensures) in (
+    let here : c .asked-of .result ≡ asking ds (a .common) i =
+    c .asked-of .ensures .0 ∙ ap (asks (a .common)) (c .before .duty-at .ensures) in (
       search needs,
-      omega (arith, sum-more i (loadAt ds (a .common)), here, at-loop .loop .inv .1),
-      omega (arith, c .load-of .ensures .1, at-loop .loop .inv .2),
+      omega (arith, sum-more i (asking ds (a .common)), here, at-loop .loop .inv .1),
+      omega (arith, c .asked-of .ensures .1, at-loop .loop .inv .2),
     )
 
 mul-result : tie.Need-mul-result Inv-loop μ-loop
@@ -60,7 +65,7 @@ returns c =
     let ds = dutiesOf (s .args .services .now) (s .args .periods .now) in
     let many = length-duties (s .args .services .now) (s .args .periods .now) in
     let all : c .before .loop .i ≡ length ds = omega (arith, many, c .before .loop .inv .0, c .loop-test .left) in
-    ap (ltb (s .args .engines * s .args .common)) (c .before .loop .inv .1 ∙ ap (λ (n : ℕ). sumTo n (loadAt ds (s .args .common))) all)
+    ap (ltb (s .args .engines * s .args .common)) (c .before .loop .inv .1 ∙ ap (λ (n : ℕ). sumTo n (asking ds (s .args .common))) all)
 
 pub is-overload-spec : {M : Type 1} → statement M
 is-overload-spec =
@@ -70,7 +75,7 @@ is-overload-spec =
     μ-loop
     loop-holds
     (λ c κs. search needs)
-    load-of-requires
+    asked-of-requires
     (λ c. search needs)
     (λ c. search needs)
     (λ c. search needs)

@@ -1,12 +1,12 @@
--- `load_of`: the service is at most the period, and so many whole periods as there are in the ticks are at most the ticks.
+-- `asked_of`: the service is at most the period, and so many whole periods as there are in the ticks are at most the ticks.
 -- Assumes nothing.
 use mathlib.Core.Path.{refl}
 use Prim.Native.Nat.{ℕ, _*_, _/_, _≤_}
 use native.Mathlib.Nat.{mul-le-mul-right, mul-div-le, div-le-self}
 use native.Mathlib.Omega.{arith}
 use borrow.Author.Needs.{needs}
-use Rattle.share_common.proofs.load_of.Statement.{statement}
-use Rattle.share_common.proofs.load_of.Tie as tie
+use Rattle.share_common.proofs.asked_of.Statement.{statement}
+use Rattle.share_common.proofs.asked_of.Tie as tie
 
 most : (c d k : ℕ) → c ≤ d → c * (k / d) ≤ k
 most c d k h = omega (arith, mul-le-mul-right (k / d) h, mul-div-le k d)
@@ -25,5 +25,5 @@ mul-result c = omega (arith, fits c)
 returns : tie.Need-returns
 returns c = (refl, fits c)
 
-pub load-of-spec : {M : Type 1} → statement M
-load-of-spec = tie.close (tie.spec (λ c. search needs) (λ c. search needs) cast-result-2 mul-result returns)
+pub asked-of-spec : {M : Type 1} → statement M
+asked-of-spec = tie.close (tie.spec (λ c. search needs) (λ c. search needs) cast-result-2 mul-result returns)
