@@ -26,6 +26,10 @@ answer-one x y e = cc
 pub refused-one : {A : Type 0} (n p k q : ℕ) → _≡_ {A = Outcome A} (refused n p) (refused k q) → (n ≡ k) × (p ≡ q)
 refused-one n p k q e = (cc, cc)
 
+-- refusals with two numbers are not the same
+pub refused-apart : {A P : Type 0} (n p k q : ℕ) → (n ≡ k → ⊥) → _≡_ {A = Outcome A} (refused n p) (refused k q) → P
+refused-apart n p k q d e = absurd (d (refused-one n p k q e .0))
+
 -- an outcome handed on as it is
 pub then-same : {A : Type 0} (o : Outcome A) → andThen o answer ≡ o
 then-same (refused n p) = refl

@@ -19,9 +19,11 @@ use Rattle.paper.specs.Words.{row, Table, heldIn}
 use Rattle.paper.specs.Rotation.{firstOf, nextOf, link, rowAt, chainsBelow}
 use Rattle.paper.specs.Walk.{walk, loads}
 use Rattle.paper.specs.Schedule.{given, served}
+use Rattle.paper.specs.Capacity.{MeetsDuties}
 use Rattle.paper.specs.Statements.{Ranged, Meets}
 use Rattle.paper.proofs.Links.{closed, rows-end}
 use Rattle.paper.proofs.Loads.{carries}
+use Rattle.paper.proofs.Capacity.{exactly-meets}
 use Rattle.paper.proofs.Rotation.{row-below}
 use Rattle.walk_laws.proofs.Service.{meets-serving, one-engine, job-served, never-twice}
 use Rattle.walk_laws.proofs.Starts.{laid, later-runs, loads-met}
@@ -87,6 +89,10 @@ module _ (w : Width) (t : Table) (g : Ranged w t) where
 
     pub same-engine : (i k e d : ℕ) → walk t (engine e) k ≡ By i → walk t (engine d) k ≡ By i → e ≡ d
     same-engine = one-engine t (meets-serving g o)
+
+    -- so it is a schedule that meets the duties on the table's engines
+    pub walk-meets : MeetsDuties (t .engines) (t .duties) (walk t)
+    walk-meets = exactly-meets (t .engines) (t .duties) (walk t) (λ i k l. not-twice i k) (λ i q l. served-jobs i l q)
 
     -- loads: of the first n blocks, one for each run in the first and in each later one as many but for what is carried, which is no more
     -- than the runs are

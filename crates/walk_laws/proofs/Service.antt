@@ -15,7 +15,7 @@ use borrow.Author.Tests.{eqb-true, eqb-false}
 use Rattle.laws.specs.Choice.{one-if}
 use Rattle.laws.specs.Sum.{sumTo}
 use Rattle.laws.proofs.Cases.{by-cases}
-use Rattle.laws.proofs.Sum.{sum-ext, sum-const, sum-blocks, count-once}
+use Rattle.laws.proofs.Sum.{sum-ext, sum-const, sum-blocks}
 use Rattle.paper.specs.declared.Duty.{Duty}
 use Rattle.paper.specs.declared.Held.the-variants.{By}
 use Rattle.paper.specs.Duties.{engine, jobStart, dutyAt, same}
@@ -28,9 +28,10 @@ use Rattle.paper.specs.Rules.{unitsOf}
 use Rattle.paper.specs.Statements.{Ranged, Meets}
 use Rattle.paper.proofs.Rotation.{row-sum, row-one}
 use Rattle.table_laws.proofs.Accepted.{ticks-divides}
+use Rattle.paper.proofs.Capacity.{once-when}
 use Rattle.paper.proofs.Holding.{RowsApart}
 use Rattle.paper.proofs.Links.{Closed, closed, rows-end}
-use Rattle.walk_laws.proofs.Units.{RowsBelow, Inside, DutiesApart, onUnit, rows-unit, units-block, same-held, one-row}
+use Rattle.walk_laws.proofs.Units.{RowsBelow, Inside, DutiesApart, onUnit, rows-unit, units-block, one-row}
 
 -- the runs lie in the rows and the units of a block and are apart: what service and exclusion need of a table
 pub record Serving (t : Table) : Type 0 where
@@ -76,10 +77,7 @@ one-engine t l i k e d p q =
 
 -- .. counted: a duty runs on at most one engine in a tick
 pub given-once : (t : Table) → Serving t → (i k : ℕ) → given (t .engines) (walk t) i k ≤ 1
-unfolding given
-given-once t l i k =
-    count-once (t .engines) (λ e. same (walk t (engine e) k) (By i))
-    (λ e d h b p q. omega (arith, one-engine t l i k e d (same-held (walk t (engine e) k) i p) (same-held (walk t (engine d) k) i q)))
+given-once t l i k = once-when (t .engines) (walk t) i k .1 (λ e d a b. one-engine t l i k e d)
 
 -- service over n whole blocks from block b on: n times the units of the duty's runs
 pub served-blocks : (t : Table) → Serving t → (i b n : ℕ) → served (t .engines) (walk t) i (b * t .ticks) (n * t .ticks)

@@ -9,15 +9,14 @@ use mathlib.Core.List.{List, [], _∷_}
 use native.Mathlib.Omega.{arith}
 use lib.Dec.{eqb}
 use lib.ListN.{length}
-use borrow.Author.Tests.{eqb-true, eq-eqb, ne-eqb}
+use borrow.Author.Tests.{eq-eqb, ne-eqb}
 use Rattle.laws.specs.Choice.{pick, one-if}
 use Rattle.laws.specs.Sum.{sumTo}
-use Rattle.laws.proofs.Cases.{by-cases, by-order, not-both, refuted}
+use Rattle.laws.proofs.Cases.{by-cases, by-order, refuted}
 use Rattle.laws.proofs.Decides.{spans}
 use Rattle.laws.proofs.Sum.{sum-ext, sum-plus, sum-zero, sum-only, count-stretch}
 use Rattle.paper.specs.declared.Row.{Row}
 use Rattle.paper.specs.declared.Run.{Run}
-use Rattle.paper.specs.declared.Held.{Held}
 use Rattle.paper.specs.declared.Held.the-variants.{Idle, By}
 use Rattle.paper.specs.Duties.{same}
 use Rattle.paper.specs.Words.{row, stop, covers, runAt, heldIn}
@@ -54,12 +53,6 @@ idle-same i = refl
 pub same-by : (i j : ℕ) → same (By i) (By j) ≡ eqb i j
 unfolding same
 same-by i j = refl
-
--- what is one with a duty is the duty
-pub same-held : (h : Held) (i : ℕ) → same h (By i) ≡ true → h ≡ By i
-unfolding same
-same-held Idle i p = not-both p refl
-same-held (By j) i p = ap By (eqb-true j i p)
 
 -- ---- one run
 
