@@ -1,7 +1,7 @@
 -- Each call comes to an answer or to a refusal whose number the documents list for that call, and whose place is within the bound on
 -- places: it is a duty, a run or a line, of which there are few, or an offset or a length within a table of few duties and runs.
 -- Assumes nothing.
-use Prim.Native.Nat.{ℕ, _+_, _*_, _-_, _^_, _≤_, _<_}
+use Prim.Native.Nat.{ℕ, _+_, _*_, _≤_, _<_}
 use mathlib.Core.Path.{_≡_, refl, sym, ap}
 use mathlib.Core.Bool.{Bool, true, false, not, _&&_}
 use mathlib.Core.List.{List, [], _∷_}
@@ -22,7 +22,7 @@ use Rattle.paper.specs.Outcome.{Outcome, refused, answer, andThen}
 use Rattle.paper.specs.Bytes.{encode, runPlace, dutyPlace, dutiesIn, headGood, endGood, runGood, badDuty, goodRuns, tableIn, afterRuns}
 use Rattle.paper.specs.Bytes.{afterHead, parse}
 use Rattle.paper.specs.Wanted.{Wanted, wantedOf, dutySet, taken}
-use Rattle.paper.specs.Builder.{planFor, badSlice, planAt, plan, fitted, build}
+use Rattle.paper.specs.Builder.{planFor, badSlice, planAt, plan, build}
 use Rattle.paper.specs.declared.State.{State}
 use Rattle.paper.specs.Answers.{stateAt, isState, question, start, rowTold, advanced, counted}
 use Rattle.paper.specs.Rotation.{link}
@@ -178,31 +178,38 @@ taken-listed x n p e = go (taken-when x (refused n p) .0 e)
     go (service-out d q c l f) = told 5 d (omega arith) (low d c (l .0)) q
     go (all-taken q c) = answered (dutySet x) n p (sym q)
 
--- 1 to 8 and 24
-abbrev pub BuildNumber : ℕ → Type 0
-BuildNumber n = From 1 8 n ⊎ (n ≡ 24)
+-- 1 to 7 and 24 for a plan
+abbrev pub PlanNumber : ℕ → Type 0
+PlanNumber n = From 1 7 n ⊎ (n ≡ 24)
 
--- 24, 6 and 7 for a plan of few duties
-plan-for-listed : (t m : ℕ) (ds : List Duty) → length ds ≤ mostPlace → Listed BuildNumber (planFor t m ds)
+-- 24, 6 and 7 where the duties are few
+plan-for-listed : (t m : ℕ) (ds : List Duty) → length ds ≤ mostPlace → Listed PlanNumber (planFor t m ds)
 unfolding planAt
 plan-for-listed t m ds few =
-    listed-pick BuildNumber (undivided t ds) _ _ (λ h. listed-refused BuildNumber 24 0 (inr refl) (omega arith) (omega arith))
-    (λ h. listed-fault BuildNumber 6 (badSlice t ds) (length ds) _ (inl (omega arith)) (omega arith) few
-    (listed-pick BuildNumber (ltb (m * t) (sumOf (slices t ds))) _ _
-    (λ k. listed-refused BuildNumber 7 0 (inl (omega arith)) (omega arith) (omega arith))
-    (λ k. listed-answer BuildNumber _)))
+    listed-pick PlanNumber (undivided t ds) _ _ (λ h. listed-refused PlanNumber 24 0 (inr refl) (omega arith) (omega arith))
+    (λ h. listed-fault PlanNumber 6 (badSlice t ds) (length ds) _ (inl (omega arith)) (omega arith) few
+    (listed-pick PlanNumber (ltb (m * t) (sumOf (slices t ds))) _ _
+    (λ k. listed-refused PlanNumber 7 0 (inl (omega arith)) (omega arith) (omega arith))
+    (λ k. listed-answer PlanNumber _)))
 
-plan-listed : (wish : ℕ) (x : Wanted) → Listed BuildNumber (plan wish x)
+pub plan-listed : (wish : ℕ) (x : Wanted) → Listed PlanNumber (plan wish x)
 unfolding plan
 plan-listed wish x =
-    listed-then BuildNumber (taken x) _ (listed-more (λ n l. inl (omega arith)) (taken x) (taken-listed x))
+    listed-then PlanNumber (taken x) _ (listed-more (λ n l. inl (omega arith)) (taken x) (taken-listed x))
     (λ ds e. let z = taken-told x ds e in
     plan-for-listed _ _ ds (omega (arith, ap length (z .1), z .0 .counts .duties, length-duties (x .services) (x .periods))))
 
 -- 8 besides for its bytes
+abbrev pub BuildNumber : ℕ → Type 0
+BuildNumber n = From 1 8 n ⊎ (n ≡ 24)
+
+plan-build : (n : ℕ) → PlanNumber n → BuildNumber n
+plan-build n (inl l) = inl (omega arith)
+plan-build n (inr e) = inr e
+
 pub build-listed : (wish : ℕ) (x : Wanted) (room : ℕ) → Listed BuildNumber (build wish x room)
 build-listed wish x room =
-    listed-then BuildNumber (plan wish x) _ (plan-listed wish x)
+    listed-then BuildNumber (plan wish x) _ (listed-more plan-build (plan wish x) (plan-listed wish x))
     (λ t e.
     let r = planned-ranged wish x t e in
     listed-pick BuildNumber (ltb room (length (encode small t))) _ _

@@ -6,10 +6,6 @@ use Prim.Native.Nat.{ℕ, _*_, _<_, _∣_}
 use mathlib.Core.Path.{_≡_}
 use native.Mathlib.Nat.{dvd-trans, div-mul-cancel, pos-of-dvd-of-pos, dvd-mul-right}
 use native.Mathlib.Omega.{arith}
-use lib.ListN.{length, getD, length-map, List·getD-map}
-use Rattle.laws.proofs.Multiple.{lcmOf-divided, lcmOf-least, lcmOf-positive}
-use Rattle.paper.specs.declared.Duty.{Duty}
-use Rattle.paper.specs.Duties.{duty, periodsOf}
 use Rattle.paper.specs.Wanted.{Wanted, dutySet}
 use Rattle.paper.specs.Sa2.{Sharing, sharing, dutyCount}
 use Rattle.paper.specs.Shares.{common, blocks}
@@ -17,30 +13,24 @@ use Rattle.paper.proofs.Passed.{Ranges}
 use Rattle.table_laws.proofs.Accepted.{block-divides}
 use Rattle.plan_laws.proofs.TakenWhen.{Taken}
 use Rattle.plan_laws.proofs.PlanWhen.{blockOf}
+use Rattle.plan_laws.proofs.Periods.{periods-divide, multiple-least, multiple-some}
 use Rattle.plan_laws.proofs.Planned.{length-duties, block-least}
 use Rattle.share_laws.proofs.Steps.{periodOf, InBlocks}
 
 module _ (s : Sharing) where
-  -- the periods, by index
-  periods-length : length (periodsOf (s .duties)) ≡ dutyCount s
-  periods-length = length-map (s .duties) (λ (x : Duty). x .period)
-
-  period-is : (i : ℕ) → getD (periodsOf (s .duties)) i 0 ≡ periodOf s i
-  period-is i = List·getD-map (λ (x : Duty). x .period) (s .duties) i (duty 0 0)
-
   -- every period divides the common multiple, ..
   pub common-divided : (i : ℕ) → i < dutyCount s → periodOf s i ∣ common s
   unfolding common
-  common-divided i l = rw (period-is i) at (lcmOf-divided (periodsOf (s .duties)) i (rw periods-length l))
+  common-divided = periods-divide (s .duties)
 
   -- .. and it divides whatever they all divide
   pub common-least : (m : ℕ) → ((i : ℕ) → i < dutyCount s → periodOf s i ∣ m) → common s ∣ m
   unfolding common
-  common-least m h = lcmOf-least (periodsOf (s .duties)) m (λ i l. rw (period-is i) (h i (rw periods-length at l)))
+  common-least = multiple-least (s .duties)
 
   pub common-some : Ranges (s .duties) → 0 < common s
   unfolding common
-  common-some r = lcmOf-positive (periodsOf (s .duties)) (λ i l. rw (period-is i) (r i (rw periods-length at l) .period-least))
+  common-some = multiple-some (s .duties)
 
   module _ (c : InBlocks s) (some : 0 < dutyCount s) where
     -- it is a whole number of blocks

@@ -15,6 +15,8 @@ pub mod GoodBlocks
 pub mod SharesWhen
 -- a plan that is given serves every job, for ever
 pub mod Served
+-- 7 means that no schedule meets the duties, a plan that one does
+pub mod Overload
 -- which numbers and places both calls refuse with
 pub mod SharesListed
 -- 004's table 3, the refusals in their order, and sets against 004's theorems 3.3 and 3.4
