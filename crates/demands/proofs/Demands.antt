@@ -1,5 +1,6 @@
 -- The three demands, as theorems on the definitions. Each is a citation; the arguments stand in the files named in the `use`
--- lines. What the code does is tied to these definitions by the contracts, each of which is an equation with one of them.
+-- lines. What the code does is tied to these definitions by the contracts, each of which is an equation with one of them. Plans of shares
+-- have a page of their own, `ShareDemands`, and what refusal 7 means has `CapacityDemands`.
 -- Assumes nothing.
 use Prim.Native.Nat.{ℕ, _+_, _*_, _/_, _%_, _^_, _≤_, _<_, _∣_}
 use mathlib.Core.Path.{_≡_, refl}

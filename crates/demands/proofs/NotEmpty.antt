@@ -1,7 +1,7 @@
 -- The theorems of `Demands` speak of something. A table written by hand is accepted, and the builder plans it for no engines and duties: it
 -- has five runs where SA1 has two. Another has blocks of half the greatest length. The table and the bytes of P2 meet the theorems'
--- hypotheses, and what the theorems then say of them is stated here, and of 004's table 3 as a plan of shares. Sets that the builder plans
--- and sets that it refuses stand in `CasesHold` and `LengthCasesHold`.
+-- hypotheses, and what the theorems then say of them is stated here, and of 004's table 3 as a plan of shares; and two sets are shown to
+-- need the engines that they have. Sets that the builder plans and sets that it refuses stand in `CasesHold` and `LengthCasesHold`.
 -- Assumes nothing.
 use Prim.Native.Nat.{ℕ, _*_}
 use mathlib.Core.Path.{_≡_, refl, ap, _∙_}
@@ -11,17 +11,19 @@ use lib.ListN.{length}
 use Rattle.laws.specs.Search.{first}
 use Rattle.laws.specs.Lists.{tab, flat, sumOf}
 use Rattle.laws.specs.Digits.{digits, numAt}
-use Rattle.laws.specs.Divisor.{gcdOf, gcd, euclid}
+use Rattle.laws.specs.Sum.{sumTo}
+use Rattle.laws.specs.Divisor.{gcdOf, gcd, euclid, lcmOf, lcm}
 use Rattle.laws.proofs.Lists.{length-tab}
 use Rattle.laws.proofs.Digits.{AreBytes}
 use Rattle.paper.specs.declared.Duty.{Duty}
 use Rattle.paper.specs.declared.Held.the-variants.{By}
-use Rattle.paper.specs.Duties.{duty, engine, same}
+use Rattle.paper.specs.Duties.{duty, engine, same, servicesOf, periodsOf}
 use Rattle.paper.specs.Words.{run, row, slice, whole, covers, heldIn, blockLengthOf, Table}
 use Rattle.paper.specs.Sa1.{sa1, lay, layOne, rowAfter, unitAfter}
 use Rattle.paper.specs.Rotation.{link, firstOf, nextOf, rowAt}
 use Rattle.paper.specs.Walk.{walk}
 use Rattle.paper.specs.Schedule.{served}
+use Rattle.paper.specs.Capacity.{FewestEngines}
 use Rattle.paper.specs.Outcome.{refused, answer}
 use Rattle.paper.specs.Limits.{small, mostEngines}
 use Rattle.paper.specs.Bytes.{parse, afterHead, afterRuns, headGood, dutyGood, runGood, endGood, badDuty, goodRuns, tableIn, stands}
@@ -34,10 +36,11 @@ use Rattle.paper.specs.Statements.{Meets}
 use Rattle.paper.specs.Answers.{rowsAt, advanced, question}
 use Rattle.table_laws.proofs.Bytes.{encode-bytes}
 use Rattle.table_laws.proofs.AcceptedBytes.{accepted-meets}
-use Rattle.paper.specs.Shares.{shareSchedule, sharePlan}
+use Rattle.paper.specs.Shares.{common, blocks, shareSchedule, overloaded, sharable, sharePlan}
 use Rattle.paper.specs.ShareCases.{wantedIn, sharingIn, table3}
 use Rattle.demands.proofs.Demands.{plan-sa1, jobs-served, question-walks, strange-refused}
 use Rattle.demands.proofs.ShareDemands.{share-jobs-served, sets-hold}
+use Rattle.demands.proofs.CapacityDemands.{7-of-tables, 7-of-shares, plan-of-tables, plan-of-shares, one-engine-fewer}
 
 -- ---- a table that the builder does not write
 
@@ -153,3 +156,20 @@ table3-given = sets-hold 0 (omega arith) .0 .0
 -- .. so each job of its duty 5 gets 37 ticks in its 60
 pub table3-served : (q : ℕ) → served 3 (shareSchedule (sharingIn table3)) 5 (q * 60) 60 ≡ 37
 table3-served q = share-jobs-served (wantedIn table3) 36 (sharingIn table3) table3-given 5 q (omega arith)
+
+-- ---- one engine fewer
+
+-- three duties of 2 ticks in every 3 have a plan on two engines, and on one get 7: so they need two, whoever schedules them
+pub three-need-two : FewestEngines 2 (dutiesOf (2 ∷ 2 ∷ 2 ∷ []) (3 ∷ 3 ∷ 3 ∷ []))
+unfolding plan taken inRange planAt sa1 lay layOne rowAfter unitAfter slice whole blockLengthOf gcdOf gcd euclid dutiesOf tab sumOf first
+three-need-two = one-engine-fewer 1 (2 ∷ 2 ∷ 2 ∷ []) (3 ∷ 3 ∷ 3 ∷ []) (7-of-tables 0 0 0 refl) (plan-of-tables 0 _ refl)
+
+-- and 004's table 3 needs its three, since as a plan of shares it gets 7 on two
+table3-on-two : sharePlan (wanted 2 (servicesOf (table3 .duties)) (periodsOf (table3 .duties))) 0 ≡ refused 7 0
+unfolding taken inRange dutiesOf tab first sharable blocks common overloaded blockLengthOf gcdOf gcd euclid lcmOf lcm sumTo
+table3-on-two = refl
+
+pub table3-needs-three : FewestEngines 3 (dutySet (wantedIn table3))
+table3-needs-three =
+    one-engine-fewer 2 (servicesOf (table3 .duties)) (periodsOf (table3 .duties)) (7-of-shares 0 0 table3-on-two)
+    (plan-of-shares 36 (sharingIn table3) table3-given)
