@@ -12,7 +12,7 @@ set -u
 cd "$(dirname "$0")/.." || exit 2
 pages=("$@")
 if [ $# -eq 0 ]; then
-    pages=(README.md docs/FORMATS.md docs/REFUSALS.md docs/SHARES.md)
+    pages=(README.md docs/FORMATS.md docs/REFUSALS.md docs/SHARES.md docs/CAPACITY.md)
 fi
 export REPOSITORY=$PWD
 failed=0

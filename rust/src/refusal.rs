@@ -6,6 +6,9 @@ macro_rules! kinds {
     ($($name:ident, $number:literal, $place:literal, $meaning:literal;)*) => {
         /// What a refusal is about, to match on.
         ///
+        /// [`Overload`](RefusalKind::Overload) means that no schedule whatever serves the duties on so many engines, or
+        /// on fewer; no other kind means that (`docs/CAPACITY.md` in the repository).
+        ///
         /// Later versions may add kinds, so a `match` wants an arm `_`. A number that this version does not list is
         /// [`Unlisted`](RefusalKind::Unlisted); leave that one to `_` too, since a later version may list it.
         ///
