@@ -55,7 +55,8 @@
 
 /* ---- Refusals ---- */
 
-/* Every refusal: its name, its number, what its place is ("" where it names none and is 0), and its meaning. */
+/* Every refusal: its name, its number, what its place is ("" where it names none and is 0), and its meaning. OVERLOAD means that no schedule
+ * whatever serves the duties on so many engines, or on fewer; no other refusal means that (docs/CAPACITY.md in the repository). */
 #define TICKPLUME_REFUSALS(REFUSAL) \
     REFUSAL(ENGINES_RANGE, 1, "", "the number of engines is not between 1 and 32") \
     REFUSAL(LISTS_DIFFER, 2, "", "the lists of services and periods differ in length") \
