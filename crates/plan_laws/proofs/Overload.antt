@@ -56,7 +56,7 @@ asked-slices t m ds h some divided w fit =
     ∙ sum-times n t asked in
     rw (sum-map (slice t) ds (duty 0 0)) (le-of-mul-le-mul-left (omega (arith, same, mul-le-mul-left t fit)) some)
 
--- and there they are where a schedule meets the duties
+-- and so they are where a schedule meets the duties
 pub slices-most : (t m : ℕ) (ds : List Duty) → Ranges ds → Wholes t ds → Possible m ds → sumOf (slices t ds) ≤ m * t
 slices-most t m ds r w p =
     let h = lcmOf (periodsOf ds) in
@@ -81,7 +81,7 @@ plan-overloaded wish x p h = go (plan-when wish x (refused 7 p) .0 h)
     go (too-much e c g w l) = record { taken = c; wholes = w; above = l }
     go (planned e f) = answered _ 7 p (sym e)
 
--- and so does the call, whose own refusal is 8
+-- where the call gives it the plan has it already: the call adds 8 alone
 pub build-overloaded : (wish : ℕ) (x : Wanted) (room p : ℕ) → build wish x room ≡ refused 7 p → plan wish x ≡ refused 7 p
 build-overloaded wish x room p h = go (built-when wish x room (refused 7 p) .0 h)
   where
