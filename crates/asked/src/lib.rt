@@ -1,7 +1,7 @@
 // What is asked of any table bytes: the question, the dispatcher, which goes from block to block, and the count of loads. The bytes are
 // judged first; then the parts below are asked, by the reading and the edges of the rows, and nothing walks over blocks or ticks.
 ghost use Rattle.std.specs.Prelude.{◌≡◌};
-ghost use Rattle.paper.specs.Answers.{question, answerAs, Hands, start, advanced, rowTold, rowAs, counted, countAs};
+ghost use Rattle.paper.specs.Answers.{question, answer_as, Hands, start, advanced, row_told, row_as, counted, count_as};
 
 use dispatch_state::{advance, refuse, state_at, tell};
 use judge::{refusal_of, rule_on};
@@ -16,7 +16,7 @@ pub struct Dispatcher(pub State);
 
 // What an engine runs at a tick, and on which row.
 pub fn question(b: &[u8], engine: Engine, tick: u64) -> Answer
-    ensures { answerAs result ≡ question b.now engine tick }
+    ensures { answer_as result ≡ question b.now engine tick }
 {
     let mut edges = [0u32; EDGES];
     let judged = rule_on(b, &mut edges);
@@ -54,7 +54,7 @@ impl Dispatcher {
 
     // The row of an engine.
     pub fn row(self, b: &[u8], engine: Engine) -> RowTold
-        ensures { rowAs result ≡ rowTold b.now self.0 engine }
+        ensures { row_as result ≡ row_told b.now self.0 engine }
     {
         let here = self.0;
         let mut edges = [0u32; EDGES];
@@ -68,7 +68,7 @@ impl Dispatcher {
 
 // The loads of the first blocks of a table.
 pub fn count(b: &[u8], blocks: u64) -> Counted
-    ensures { countAs result ≡ counted b.now blocks }
+    ensures { count_as result ≡ counted b.now blocks }
 {
     let mut edges = [0u32; EDGES];
     let judged = rule_on(b, &mut edges);

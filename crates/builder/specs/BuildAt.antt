@@ -6,5 +6,5 @@ use Rattle.paper.specs.Bytes.{bytes_of}
 use Rattle.paper.specs.Builder.{plan_at, fitted}
 
 -- refusals 6 and 7, else a plan; 8, else its bytes
-abbrev pub buildAt : ℕ → ℕ → List Duty → ℕ → Outcome (List ℕ)
-buildAt t m ds room = and_then (plan_at t m ds) (λ p. fitted room (bytes_of p))
+abbrev pub build_at : ℕ → ℕ → List Duty → ℕ → Outcome (List ℕ)
+build_at t m ds room = and_then (plan_at t m ds) (λ p. fitted room (bytes_of p))

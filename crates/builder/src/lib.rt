@@ -2,10 +2,10 @@
 // the refusals 6 to 8 and the table written, takes any block length.
 ghost use Rattle.std.specs.Prelude.{◌≡◌, ◌≤◌, length};
 ghost use Rattle.paper.specs.Outcome.{answer, Writes};
-ghost use Rattle.paper.specs.Limits.{mostEngines};
-ghost use Rattle.paper.specs.Wanted.{dutiesOf, wanted, taken};
+ghost use Rattle.paper.specs.Limits.{most_engines};
+ghost use Rattle.paper.specs.Wanted.{duties_of, wanted, taken};
 ghost use Rattle.duty_lists.specs.Sliceable.{Sliceable};
-ghost use Rattle.builder.specs.BuildAt.{buildAt};
+ghost use Rattle.builder.specs.BuildAt.{build_at};
 ghost use Rattle.paper.specs.Builder.{build as buildFrom};
 
 use duty_lists::take_duties;
@@ -17,8 +17,8 @@ use slices::{gcd_of_all, length_meant};
 
 // The builder from refusal 6 on, for any block length in range. The answer is the table's length in bytes.
 fn build_fitting(t: u32, engines: u32, services: &[u32], periods: &[u32], out: &mut [u8]) -> Written
-    requires { Sliceable t services.now periods.now × (engines ≤ mostEngines) }
-    ensures { Writes (buildAt t engines (dutiesOf services.now periods.now) (length out.old)) result
+    requires { Sliceable t services.now periods.now × (engines ≤ most_engines) }
+    ensures { Writes (build_at t engines (duties_of services.now periods.now) (length out.old)) result
         out.old out.new }
 {
     let duties = services.len();
@@ -48,7 +48,7 @@ fn build_taken(
     periods: &[u32],
     out: &mut [u8],
 ) -> Written
-    requires { taken (wanted engines services.now periods.now) ≡ answer (dutiesOf services.now periods.now) }
+    requires { taken (wanted engines services.now periods.now) ≡ answer (duties_of services.now periods.now) }
     ensures { Writes (buildFrom wish (wanted engines services.now periods.now) (length out.old)) result
         out.old out.new }
 {

@@ -1,9 +1,9 @@
 // What goes on over a boundary between blocks: the duties that an engine has at the end of a block and at the start of the next.
 ghost use Rattle.std.specs.Prelude.{◌≡◌, ◌+◌, ◌≤◌};
-ghost use Rattle.paper.specs.Limits.{mostEngines};
+ghost use Rattle.paper.specs.Limits.{most_engines};
 ghost use Rattle.paper.specs.Rotation.{first_of};
 ghost use Rattle.row_edges.specs.Links.{link_of};
-ghost use Rattle.carried_over.specs.Carried.{carried_of, closesOf, carriedIn};
+ghost use Rattle.carried_over.specs.Carried.{carried_of, closes_of, carried_in};
 
 use paper::limits::EDGES;
 use paper::{Chain, Row};
@@ -12,8 +12,8 @@ use row_edges::{first_edge, last_edge, same_duty};
 
 // Whether the duty at the end of a chain's last row goes on at the start of its first, to which that row's engine moves.
 fn closes(edges: &[u32; EDGES], chain: Chain) -> bool
-    requires { (1 ≤ chain.length) × (chain.first.0 + chain.length ≤ mostEngines + 1) }
-    ensures { result ≡ closesOf edges.now chain }
+    requires { (1 ≤ chain.length) × (chain.first.0 + chain.length ≤ most_engines + 1) }
+    ensures { result ≡ closes_of edges.now chain }
 {
     let last = chain.first.0 + chain.length - 1;
     same_duty(last_edge(edges, Row(last)), first_edge(edges, chain.first))
@@ -22,8 +22,8 @@ fn closes(edges: &[u32; EDGES], chain: Chain) -> bool
 // At how many rows of a chain a duty is carried over a boundary: at each that another is chained to, and at the last where the chain
 // closes.
 fn carried_in(edges: &[u32; EDGES], chain: Chain) -> u32
-    requires { (1 ≤ chain.length) × (chain.first.0 + chain.length ≤ mostEngines + 1) }
-    ensures { (result ≡ carriedIn edges.now chain) × (result ≤ chain.length) }
+    requires { (1 ≤ chain.length) × (chain.first.0 + chain.length ≤ most_engines + 1) }
+    ensures { (result ≡ carried_in edges.now chain) × (result ≤ chain.length) }
 {
     if closes(edges, chain) {
         return chain.length;
@@ -33,7 +33,7 @@ fn carried_in(edges: &[u32; EDGES], chain: Chain) -> u32
 
 // At how many rows a duty is carried over a boundary: those are no loads in any block but the first. The last row's chain ends with it.
 pub fn carried(edges: &[u32; EDGES], engines: u32) -> u32
-    requires { (engines ≤ mostEngines) × (first_of (link_of edges.now) engines ≡ engines) }
+    requires { (engines ≤ most_engines) × (first_of (link_of edges.now) engines ≡ engines) }
     ensures { (result ≡ carried_of edges.now engines) × (result ≤ engines) }
 {
     let mut count: u32 = 0;

@@ -2,12 +2,12 @@
 use Rattle.std.specs.Prelude.{ℕ, Bool, List, ◌++◌}
 use Rattle.laws.specs.Lists.{flat}
 use Rattle.paper.specs.Words.{Table}
-use Rattle.paper.specs.Rotation.{chainsBelow, chains}
-use Rattle.paper.specs.Text.{chainLine, loadsLine}
+use Rattle.paper.specs.Rotation.{chains_below, chains}
+use Rattle.paper.specs.Text.{chain_line, loads_line}
 
 -- of the chains that begin below row k, of m rows with links c
-abbrev pub linesBelow : (ℕ → Bool) → ℕ → ℕ → List ℕ
-linesBelow c m k = flat chainLine (chainsBelow c m k)
+abbrev pub lines_below : (ℕ → Bool) → ℕ → ℕ → List ℕ
+lines_below c m k = flat chain_line (chains_below c m k)
 
-abbrev pub rotationLines : Table → List ℕ
-rotationLines t = flat chainLine (chains t) ++ loadsLine t
+abbrev pub rotation_lines : Table → List ℕ
+rotation_lines t = flat chain_line (chains t) ++ loads_line t

@@ -6,11 +6,11 @@ use native.Mathlib.Omega.{arith}
 use Rattle.paper.specs.Words.{row}
 use Rattle.rotation.specs.declared.Turned.{Turned}
 use Rattle.rotation.specs.Turning.{IsTurned}
-use Rattle.rotation.proofs.Turns.{turned-other}
+use Rattle.rotation.proofs.Turns.{turned_other}
 use Rattle.dispatch_rows.specs.AtHand.{AtHand}
 
-pub none-at-hand : (c : ℕ → Bool) (b : ℕ) → AtHand c b 0 (record { chain = record { first = row 0; length = 0 }; places = 0 })
-none-at-hand c b = record { most = omega arith; reaches = λ h. absurd (omega arith) }
+pub none_at_hand : (c : ℕ → Bool) (b : ℕ) → AtHand c b 0 (record { chain = record { first = row 0; length = 0 }; places = 0 })
+none_at_hand c b = record { most = omega arith; reaches = λ h. absurd (omega arith) }
 
-pub next-at-hand : {c : ℕ → Bool} {b r : ℕ} {x : Turned} → IsTurned c b r x → AtHand c b (r + 1) x
-next-at-hand {c} {b} {r} {x} t = record { most = t.most; reaches = λ h. turned-other t (r + 1) (omega (arith, t.chained)) h }
+pub next_at_hand : {c : ℕ → Bool} {b r : ℕ} {x : Turned} → IsTurned c b r x → AtHand c b (r + 1) x
+next_at_hand {c} {b} {r} {x} t = record { most = t.most; reaches = λ h. turned_other t (r + 1) (omega (arith, t.chained)) h }

@@ -1,8 +1,8 @@
 // The rows of all engines in a block, worked out from the block's number, chain by chain; and lists of rows compared.
 ghost use Rattle.std.specs.Prelude.{◌≡◌, ◌≤◌};
-ghost use Rattle.laws.specs.Lists.{same-list};
-ghost use Rattle.paper.specs.Limits.{mostEngines};
-ghost use Rattle.paper.specs.Words.{rowNumbers};
+ghost use Rattle.laws.specs.Lists.{same_list};
+ghost use Rattle.paper.specs.Limits.{most_engines};
+ghost use Rattle.paper.specs.Words.{row_numbers};
 ghost use Rattle.paper.specs.Answers.{rows_at};
 ghost use Rattle.row_edges.specs.Links.{link_of};
 ghost use Rattle.rotation.specs.Turning.{IsTurned};
@@ -14,7 +14,7 @@ use rotation::{Turned, row_of, turned_at};
 
 // The chain of a row in a block: the one at hand, if it reaches so far, or else the next.
 fn onward(edges: &[u32; EDGES], block: u64, turned: Turned, row: Row) -> Turned
-    requires { (row.0 ≤ mostEngines) × AtHand (link_of edges.now) block row.0 turned }
+    requires { (row.0 ≤ most_engines) × AtHand (link_of edges.now) block row.0 turned }
     ensures { IsTurned (link_of edges.now) block row.0 result }
 {
     if row.0 < turned.chain.first.0 + turned.chain.length {
@@ -25,7 +25,7 @@ fn onward(edges: &[u32; EDGES], block: u64, turned: Turned, row: Row) -> Turned
 
 // The rows of all engines in a block: one chain after the other, each found once. At first there is none at hand.
 pub fn rows_at(edges: &[u32; EDGES], engines: u32, block: u64) -> [Row; MOST_ENGINES]
-    requires { engines ≤ mostEngines }
+    requires { engines ≤ most_engines }
     ensures { result ≡ rows_at (link_of edges.now) engines block }
 {
     let mut rows = [Row(0); MOST_ENGINES];
@@ -48,7 +48,7 @@ pub fn rows_at(edges: &[u32; EDGES], engines: u32, block: u64) -> [Row; MOST_ENG
 
 // Whether two lists of rows are the same.
 pub fn same_rows(a: [Row; MOST_ENGINES], b: [Row; MOST_ENGINES]) -> bool
-    ensures { result ≡ same-list (rowNumbers a) (rowNumbers b) }
+    ensures { result ≡ same_list (row_numbers a) (row_numbers b) }
 {
     let mut i = 0;
     while i < MOST_ENGINES {

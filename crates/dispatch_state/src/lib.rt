@@ -1,9 +1,9 @@
 // What a dispatcher's state, a block and the rows of all engines in it, comes to: whether it is the one for its block, the state of the
 // block after it, the row of an engine, or a refusal with no state.
 ghost use Rattle.std.specs.Prelude.{◌≡◌, ◌≤◌};
-ghost use Rattle.paper.specs.Limits.{mostEngines};
-ghost use Rattle.paper.specs.Outcome.{answer, refusedAs};
-ghost use Rattle.paper.specs.Answers.{Hands, stateAt, isState, nextBy, row_by, rowAs};
+ghost use Rattle.paper.specs.Limits.{most_engines};
+ghost use Rattle.paper.specs.Outcome.{answer, refused_as};
+ghost use Rattle.paper.specs.Answers.{Hands, state_at, is_state, next_by, row_by, row_as};
 ghost use Rattle.row_edges.specs.Links.{link_of};
 
 use dispatch_rows::{rows_at, same_rows};
@@ -13,8 +13,8 @@ use rotation::row_in;
 
 // Whether a state is the one for its block.
 fn is_own(edges: &[u32; EDGES], engines: u32, s: State) -> bool
-    requires { engines ≤ mostEngines }
-    ensures { result ≡ isState (link_of edges.now) engines s }
+    requires { engines ≤ most_engines }
+    ensures { result ≡ is_state (link_of edges.now) engines s }
 {
     let rows = s.rows;
     same_rows(rows, rows_at(edges, engines, s.block))
@@ -22,8 +22,8 @@ fn is_own(edges: &[u32; EDGES], engines: u32, s: State) -> bool
 
 // The state of a block.
 pub fn state_at(edges: &[u32; EDGES], engines: u32, block: u64) -> Dispatched
-    requires { engines ≤ mostEngines }
-    ensures { Hands (answer (stateAt (link_of edges.now) engines block)) result }
+    requires { engines ≤ most_engines }
+    ensures { Hands (answer (state_at (link_of edges.now) engines block)) result }
 {
     let rows = rows_at(edges, engines, block);
     Dispatched {
@@ -34,7 +34,7 @@ pub fn state_at(edges: &[u32; EDGES], engines: u32, block: u64) -> Dispatched
 
 // A refusal, with a state that is none.
 pub fn refuse(why: Refusal) -> Dispatched
-    ensures { Hands (refusedAs why) result }
+    ensures { Hands (refused_as why) result }
 {
     let rows = [Row(0); MOST_ENGINES];
     Dispatched {
@@ -45,8 +45,8 @@ pub fn refuse(why: Refusal) -> Dispatched
 
 // The state of the block after a state's.
 pub fn advance(edges: &[u32; EDGES], engines: u32, s: State) -> Dispatched
-    requires { engines ≤ mostEngines }
-    ensures { Hands (nextBy (link_of edges.now) engines s) result }
+    requires { engines ≤ most_engines }
+    ensures { Hands (next_by (link_of edges.now) engines s) result }
 {
     if !is_own(edges, engines, s) {
         return refuse(Refusal {
@@ -67,8 +67,8 @@ pub fn advance(edges: &[u32; EDGES], engines: u32, s: State) -> Dispatched
 
 // The row of an engine by a state.
 pub fn tell(edges: &[u32; EDGES], engines: u32, s: State, engine: Engine) -> RowTold
-    requires { engines ≤ mostEngines }
-    ensures { rowAs result ≡ row_by (link_of edges.now) engines s engine }
+    requires { engines ≤ most_engines }
+    ensures { row_as result ≡ row_by (link_of edges.now) engines s engine }
 {
     if engines <= engine.0 {
         return RowTold::Refused(Refusal {

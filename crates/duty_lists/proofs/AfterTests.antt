@@ -6,45 +6,45 @@ use mathlib.Core.Path.{◌≡◌, sym, ◌∙◌}
 use mathlib.Core.Logic.{◌↔◌}
 use native.Mathlib.Omega.{arith}
 use lib.ListN.{length}
-use Rattle.laws.specs.Divisor.{gcdOf}
+use Rattle.laws.specs.Divisor.{gcd_of}
 use Rattle.paper.specs.declared.Verdict.{Verdict}
 use Rattle.paper.specs.declared.Verdict.TheVariants.{Done}
-use Rattle.paper.specs.Words.{blockLengthOf}
-use Rattle.paper.specs.Outcome.{verdictAs}
-use Rattle.paper.specs.Wanted.{Wanted, dutySet, taken}
+use Rattle.paper.specs.Words.{block_length_of}
+use Rattle.paper.specs.Outcome.{verdict_as}
+use Rattle.paper.specs.Wanted.{Wanted, duty_set, taken}
 use Rattle.paper.specs.Statements.{CommonDivisor}
-use Rattle.table_laws.proofs.Accepted.{common-when, block-divides}
-use Rattle.plan_laws.proofs.Sa1Table.{ticks-some, ticks-within}
-use Rattle.plan_laws.proofs.Planned.{length-duties, block-length-is}
-use Rattle.plan_laws.proofs.TakenWhen.{Taken, taken-told}
+use Rattle.table_laws.proofs.Accepted.{common_when, block_divides}
+use Rattle.plan_laws.proofs.Sa1Table.{ticks_some, ticks_within}
+use Rattle.plan_laws.proofs.Planned.{length_duties, block_length_is}
+use Rattle.plan_laws.proofs.TakenWhen.{Taken, taken_told}
 use Rattle.duty_lists.specs.Sliceable.{Sliceable}
 
 module _ (x : Wanted) where
   -- where the verdict is done, none of 1 to 5 applies
-  pub none-applies : (v : Verdict) → verdictAs v (dutySet x) ≡ taken x → v ≡ Done → Taken x
-  none-applies v h e = (taken-told x (dutySet x) (sym h ∙ rw e)).0
+  pub none_applies : (v : Verdict) → verdict_as v (duty_set x) ≡ taken x → v ≡ Done → Taken x
+  none_applies v h e = (taken_told x (duty_set x) (sym h ∙ rw e)).0
 
   -- what is taken has its greatest block length
-  pub block-is : Taken x → blockLengthOf (dutySet x) ≡ gcdOf x.periods
-  block-is c = block-length-is x.services x.periods c.counts.lengths
+  pub block_is : Taken x → block_length_of (duty_set x) ≡ gcd_of x.periods
+  block_is c = block_length_is x.services x.periods c.counts.lengths
 
   -- the lengths that divide every period are the divisors of that one
-  pub common-is : (t : ℕ) → Taken x → (t ∣ gcdOf x.periods) ↔ CommonDivisor t (dutySet x)
-  common-is t c = rw (← block-is c) (common-when t (dutySet x))
+  pub common_is : (t : ℕ) → Taken x → (t ∣ gcd_of x.periods) ↔ CommonDivisor t (duty_set x)
+  common_is t c = rw (← block_is c) (common_when t (duty_set x))
 
   -- such a length is in range, as the duties are, ..
-  pub sliceable-by : (t : ℕ) → Taken x → CommonDivisor t (dutySet x) → Sliceable t x.services x.periods
-  sliceable-by t c d =
-      let ds = dutySet x in
-      let n = length-duties x.services x.periods in
+  pub sliceable_by : (t : ℕ) → Taken x → CommonDivisor t (duty_set x) → Sliceable t x.services x.periods
+  sliceable_by t c d =
+      let ds = duty_set x in
+      let n = length_duties x.services x.periods in
       let some : 1 ≤ length ds = omega (arith, n, c.counts.duties) in
       record {
         paired = record { same = c.counts.lengths; few = c.counts.duties.1 };
-        ticks-least = ticks-some t ds some c.ranges d;
-        ticks-most = ticks-within t ds some c.ranges d;
+        ticks_least = ticks_some t ds some c.ranges d;
+        ticks_most = ticks_within t ds some c.ranges d;
         ranged = λ i l. c.ranges i (omega (arith, n));
       }
 
   -- .. and so is the greatest
-  pub sliceable : Taken x → Sliceable (gcdOf x.periods) x.services x.periods
-  sliceable c = rw (← block-is c) (sliceable-by (blockLengthOf (dutySet x)) c (block-divides (dutySet x)))
+  pub sliceable : Taken x → Sliceable (gcd_of x.periods) x.services x.periods
+  sliceable c = rw (← block_is c) (sliceable_by (block_length_of (duty_set x)) c (block_divides (duty_set x)))

@@ -3,7 +3,7 @@ use Rattle.std.specs.Prelude.{◌≤◌, ◌<◌, ◌≡◌}
 use Rattle.paper.specs.declared.Refusal.{Refusal}
 use Rattle.paper.specs.declared.Verdict.{Verdict}
 use Rattle.paper.specs.declared.Verdict.TheVariants.{Refused}
-use Rattle.paper.specs.Limits.{mostPlace}
+use Rattle.paper.specs.Limits.{most_place}
 
 abbrev pub InWord : Verdict → Type 0
-InWord v = (x : Refusal) → v ≡ Refused x → (x.number < 256) × (x.place ≤ mostPlace)
+InWord v = (x : Refusal) → v ≡ Refused x → (x.number < 256) × (x.place ≤ most_place)

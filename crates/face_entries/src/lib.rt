@@ -2,12 +2,12 @@
 // what a dispatcher hands back, handed over.
 ghost use Rattle.std.specs.Prelude.{◌≡◌, ◌∷◌, ◌≤◌, length};
 ghost use Rattle.laws.specs.Lists.{over};
-ghost use Rattle.paper.specs.Limits.{readingRoom, replyRoom, shareReadingRoom, stateRoom};
-ghost use Rattle.paper.specs.Words.{rowNumbers};
-ghost use Rattle.paper.specs.Outcome.{verdictAs};
-ghost use Rattle.paper.specs.Face.{Tells, entries, readingEntries, replyEntries, stateEntries, shareReadingEntries};
+ghost use Rattle.paper.specs.Limits.{reading_room, reply_room, share_reading_room, state_room};
+ghost use Rattle.paper.specs.Words.{row_numbers};
+ghost use Rattle.paper.specs.Outcome.{verdict_as};
+ghost use Rattle.paper.specs.Face.{Tells, entries, reading_entries, reply_entries, state_entries, share_reading_entries};
 ghost use Rattle.face_entries.specs.InWord.{InWord};
-ghost use Rattle.face_entries.specs.Cut.{cutState};
+ghost use Rattle.face_entries.specs.Cut.{cut_state};
 
 use face_words::{held_entry, narrow, word_of};
 use paper::limits::MOST_ENGINES;
@@ -15,8 +15,8 @@ use paper::{Dispatched, Reading, Reply, Row, ShareReading, State, Verdict};
 
 // A table's reading put into a lent answer: block length, engines, duties, runs.
 pub fn put_reading(answer: &mut [u64], rd: Reading)
-    requires { readingRoom ≤ length answer.old }
-    ensures { answer.new ≡ over (readingEntries rd) answer.old }
+    requires { reading_room ≤ length answer.old }
+    ensures { answer.new ≡ over (reading_entries rd) answer.old }
 {
     answer[0] = rd.block_length as u64;
     answer[1] = rd.engines as u64;
@@ -26,8 +26,8 @@ pub fn put_reading(answer: &mut [u64], rd: Reading)
 
 // A reply put into a lent answer: the row, and the duty or the mark for idle.
 pub fn put_reply(answer: &mut [u64], reply: Reply)
-    requires { replyRoom ≤ length answer.old }
-    ensures { answer.new ≡ over (replyEntries reply) answer.old }
+    requires { reply_room ≤ length answer.old }
+    ensures { answer.new ≡ over (reply_entries reply) answer.old }
 {
     let held = reply.held;
     answer[0] = reply.row.0 as u64;
@@ -36,8 +36,8 @@ pub fn put_reply(answer: &mut [u64], reply: Reply)
 
 // What is told of a plan of shares put into a lent answer: entries, block length, blocks.
 pub fn put_share_reading(answer: &mut [u64], rd: ShareReading)
-    requires { shareReadingRoom ≤ length answer.old }
-    ensures { answer.new ≡ over (shareReadingEntries rd) answer.old }
+    requires { share_reading_room ≤ length answer.old }
+    ensures { answer.new ≡ over (share_reading_entries rd) answer.old }
 {
     answer[0] = rd.entries as u64;
     answer[1] = rd.block_length as u64;
@@ -46,8 +46,8 @@ pub fn put_share_reading(answer: &mut [u64], rd: ShareReading)
 
 // The state in a lent list; an entry too large for a row becomes a number that no row has.
 pub fn state_in(state: &[u64]) -> State
-    requires { stateRoom ≤ length state.now }
-    ensures { result ≡ cutState state.now }
+    requires { state_room ≤ length state.now }
+    ensures { result ≡ cut_state state.now }
 {
     let mut rows = [Row(0); MOST_ENGINES];
     let mut e = 0;
@@ -61,8 +61,8 @@ pub fn state_in(state: &[u64]) -> State
 
 // A block and its rows put into a lent state.
 pub fn put_state(state: &mut [u64], block: u64, rows: [Row; MOST_ENGINES])
-    requires { stateRoom ≤ length state.old }
-    ensures { state.new ≡ over (block ∷ rowNumbers rows) state.old }
+    requires { state_room ≤ length state.old }
+    ensures { state.new ≡ over (block ∷ row_numbers rows) state.old }
 {
     state[0] = block;
     let mut e = 0;
@@ -75,8 +75,8 @@ pub fn put_state(state: &mut [u64], block: u64, rows: [Row; MOST_ENGINES])
 
 // What a dispatcher hands back as a word, and as the entries of its state where it is done.
 pub fn hand_over(done: Dispatched, state: &mut [u64]) -> u64
-    requires { InWord done.verdict × (stateRoom ≤ length state.old) }
-    ensures { Tells (entries stateEntries (verdictAs done.verdict done.state)) result state.old state.new }
+    requires { InWord done.verdict × (state_room ≤ length state.old) }
+    ensures { Tells (entries state_entries (verdict_as done.verdict done.state)) result state.old state.new }
 {
     let verdict = done.verdict;
     match verdict {

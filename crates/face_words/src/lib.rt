@@ -1,15 +1,15 @@
 // Words and entries one at a time: a refusal as the word that a call returns, an entry of a lent state as a row number, and what holds a
 // tick as an entry.
 ghost use Rattle.std.specs.Prelude.{◌≡◌, ◌+◌, ◌*◌, ◌≤◌, ◌<◌, min};
-ghost use Rattle.paper.specs.Limits.{mostPlace, no_row};
-ghost use Rattle.paper.specs.Face.{heldEntry};
+ghost use Rattle.paper.specs.Limits.{most_place, no_row};
+ghost use Rattle.paper.specs.Face.{held_entry};
 
 use paper::limits::{IDLE, NO_ROW};
 use paper::{Held, Refusal};
 
 // A refusal as a word.
 pub fn word_of(why: Refusal) -> u64
-    requires { (why.number < 256) × (why.place ≤ mostPlace) }
+    requires { (why.number < 256) × (why.place ≤ most_place) }
     ensures { result ≡ why.number + 256 * why.place }
 {
     why.number as u64 + 256 * why.place as u64
@@ -17,7 +17,7 @@ pub fn word_of(why: Refusal) -> u64
 
 // The word for a lent list that is too short, with the entries needed.
 pub fn too_short(needed: usize) -> u64
-    requires { needed ≤ mostPlace }
+    requires { needed ≤ most_place }
     ensures { result ≡ 255 + 256 * needed }
 {
     word_of(Refusal {
@@ -35,7 +35,7 @@ pub fn narrow(x: u64) -> u32
 
 // What holds a tick as one entry: the duty, or the mark for idle.
 pub fn held_entry(held: Held) -> u64
-    ensures { result ≡ heldEntry held }
+    ensures { result ≡ held_entry held }
 {
     match held {
         Held::By(duty) => duty as u64,

@@ -1,10 +1,10 @@
 // The judge of tables: the form of the bytes, then the rules. One pass over the runs serves the judge and those who ask on.
 ghost use Rattle.std.specs.Prelude.{◌≡◌, ◌≤◌};
-ghost use Rattle.paper.specs.Outcome.{answer, and_then, judgedAs, refusalOf};
-ghost use Rattle.paper.specs.Rules.{overlaps, lowest, judged, judgeDuties, reading_of};
+ghost use Rattle.paper.specs.Outcome.{answer, and_then, judged_as, refusal_of};
+ghost use Rattle.paper.specs.Rules.{overlaps, lowest, judged, judge_duties, reading_of};
 ghost use Rattle.record_read.specs.Formed.{Formed, table_of};
-ghost use Rattle.table_tally.specs.Tally.{noEdges, edgesOf};
-ghost use Rattle.judge_runs.specs.Halves.{judgeService};
+ghost use Rattle.table_tally.specs.Tally.{no_edges, edges_of};
+ghost use Rattle.judge_runs.specs.Halves.{judge_service};
 ghost use Rattle.judge.specs.Ruled.{RunsRuled, Ruled};
 
 use judge_lowest::{bad_slice, is_undivided};
@@ -17,7 +17,7 @@ use table_tally::tally;
 // Rules 11 and 12, of the duties of bytes in good form: the lower fault, or the reading.
 fn judge_duties(b: &[u8], rd: Reading) -> Judged
     requires { Formed b.now rd }
-    ensures { judgedAs result ≡ and_then (judgeDuties (table_of b.now rd)) (λ t. answer (reading_of t)) }
+    ensures { judged_as result ≡ and_then (judge_duties (table_of b.now rd)) (λ t. answer (reading_of t)) }
 {
     if is_undivided(b, rd) {
         return Judged::Bad(Fault::BlockLength);
@@ -31,9 +31,9 @@ fn judge_duties(b: &[u8], rd: Reading) -> Judged
 
 // Rules 16 and 17, where 14 is met, with the lists that they need; the tally leaves the edges of the rows.
 fn rule_on_service(b: &[u8], rd: Reading, edges: &mut [u32; EDGES]) -> Judged
-    requires { Formed b.now rd × (edges.old ≡ noEdges) × (rd.runs ≤ lowest overlaps (table_of b.now rd).runs) }
-    ensures result_value { judgedAs result ≡ and_then (judgeService (table_of b.now rd)) (λ t. answer (reading_of t)) }
-    ensures edges_after { edges.new ≡ edgesOf (table_of b.now rd) }
+    requires { Formed b.now rd × (edges.old ≡ no_edges) × (rd.runs ≤ lowest overlaps (table_of b.now rd).runs) }
+    ensures result_value { judged_as result ≡ and_then (judge_service (table_of b.now rd)) (λ t. answer (reading_of t)) }
+    ensures edges_after { edges.new ≡ edges_of (table_of b.now rd) }
 {
     let mut units = [0u32; MOST_DUTIES];
     let mut last = [0u16; MOST_DUTIES];
@@ -44,7 +44,7 @@ fn rule_on_service(b: &[u8], rd: Reading, edges: &mut [u32; EDGES]) -> Judged
 
 // The rules of the runs: first those of the rows, which need no list.
 fn rule_on_runs(b: &[u8], rd: Reading, edges: &mut [u32; EDGES]) -> Judged
-    requires { Formed b.now rd × (edges.old ≡ noEdges) }
+    requires { Formed b.now rd × (edges.old ≡ no_edges) }
     ensures { RunsRuled (table_of b.now rd) result edges.new }
 {
     let rows = judge_rows(b, rd);
@@ -56,7 +56,7 @@ fn rule_on_runs(b: &[u8], rd: Reading, edges: &mut [u32; EDGES]) -> Judged
 
 // The rules' answer to bytes in good form: first those of the duties, which look at no run, then those of the runs.
 fn rule_on_form(b: &[u8], rd: Reading, edges: &mut [u32; EDGES]) -> Judged
-    requires { Formed b.now rd × (edges.old ≡ noEdges) }
+    requires { Formed b.now rd × (edges.old ≡ no_edges) }
     ensures { Ruled b.now result edges.new }
 {
     let duties = judge_duties(b, rd);
@@ -69,7 +69,7 @@ fn rule_on_form(b: &[u8], rd: Reading, edges: &mut [u32; EDGES]) -> Judged
 // Judges any bytes: the reading of an accepted table, or the lowest fault with its place. It leaves the edges of an accepted table's rows
 // to those who ask on, in a lent list of zeros.
 pub fn rule_on(b: &[u8], edges: &mut [u32; EDGES]) -> Judged
-    requires { edges.old ≡ noEdges }
+    requires { edges.old ≡ no_edges }
     ensures { Ruled b.now result edges.new }
 {
     match form_of(b) {
@@ -80,7 +80,7 @@ pub fn rule_on(b: &[u8], edges: &mut [u32; EDGES]) -> Judged
 
 // Judges any bytes: the reading of an accepted table, or the lowest fault with its place.
 pub fn judge(b: &[u8]) -> Judged
-    ensures { judgedAs result ≡ judged b.now }
+    ensures { judged_as result ≡ judged b.now }
 {
     let mut edges = [0u32; EDGES];
     rule_on(b, &mut edges)
@@ -88,7 +88,7 @@ pub fn judge(b: &[u8]) -> Judged
 
 // A fault as a refusal: its number, and its offset, duty or run.
 pub fn refusal_of(fault: Fault) -> Refusal
-    ensures { (result.number ≡ (refusalOf fault).number) × (result.place ≡ (refusalOf fault).place) }
+    ensures { (result.number ≡ (refusal_of fault).number) × (result.place ≡ (refusal_of fault).place) }
 {
     match fault {
         Fault::Form(at) => Refusal {

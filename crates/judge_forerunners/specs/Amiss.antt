@@ -8,9 +8,9 @@ use Rattle.judge_pairs.specs.declared.Amiss.{Amiss}
 use Rattle.judge_pairs.specs.Amiss.{amiss}
 
 -- run k stands so to run j
-abbrev pub amissAt : Amiss → List Run → ℕ → ℕ → Bool
-amissAt kind xs j k = amiss kind (run_at xs j) (run_at xs k)
+abbrev pub amiss_at : Amiss → List Run → ℕ → ℕ → Bool
+amiss_at kind xs j k = amiss kind (run_at xs j) (run_at xs k)
 
 -- the lowest run that stands so to the one before it, or how many there are
-abbrev pub lowestBeside : Amiss → List Run → ℕ
-lowestBeside kind xs = first (beside (amissAt kind xs)) (length xs)
+abbrev pub lowest_beside : Amiss → List Run → ℕ
+lowest_beside kind xs = first (beside (amiss_at kind xs)) (length xs)

@@ -6,7 +6,7 @@ ghost use Rattle.laws.proofs.Search.{beside, Comparing};
 ghost use Rattle.paper.specs.Rules.{overlaps, joins, lowest, bad_order};
 ghost use Rattle.table_laws.proofs.Forerunners.{wrongly};
 ghost use Rattle.record_read.specs.Formed.{Formed, table_of};
-ghost use Rattle.judge_forerunners.specs.Amiss.{amissAt, lowestBeside};
+ghost use Rattle.judge_forerunners.specs.Amiss.{amiss_at, lowest_beside};
 
 use judge_pairs::{Amiss, is_amiss};
 use paper::Reading;
@@ -14,8 +14,8 @@ use record_read::run_of;
 
 // The lowest run that stands so to its forerunner, or how many runs there are; none before `from` does.
 fn lowest_amiss(b: &[u8], rd: Reading, kind: Amiss, from: usize) -> usize
-    requires { Formed b.now rd × Comparing (amissAt kind (table_of b.now rd).runs) from }
-    ensures { result ≡ lowestBeside kind (table_of b.now rd).runs }
+    requires { Formed b.now rd × Comparing (amiss_at kind (table_of b.now rd).runs) from }
+    ensures { result ≡ lowest_beside kind (table_of b.now rd).runs }
 {
     let n = rd.runs as usize;
     let mut k = from;

@@ -8,8 +8,8 @@ use Rattle.paper.specs.declared.Reading.{Reading}
 use Rattle.paper.specs.Words.{run_at}
 use Rattle.paper.specs.Rules.{overlaps, lowest}
 use Rattle.record_read.specs.Formed.{Formed, table_of}
-use Rattle.record_read.proofs.Table.{table_runs, table-run}
-use Rattle.table_laws.proofs.Forerunners.{found-apart}
+use Rattle.record_read.proofs.Table.{table_runs, table_run}
+use Rattle.table_laws.proofs.Forerunners.{found_apart}
 use Rattle.table_laws.proofs.SortedRuns.{Rowed}
 
 -- run k is one of the list
@@ -18,13 +18,13 @@ in_list b rd k h = omega (arith, table_runs b rd)
 
 -- its duty is one of the table's
 pub owned : {b : List ℕ} {rd : Reading} → Formed b rd → (k : ℕ) → k < rd.runs → (run_at (table_of b rd).runs k).duty < rd.duties
-owned {b} {rd} F k h = rw (table-run b rd k h) (F.run-ranged k h).duty-below
+owned {b} {rd} F k h = rw (table_run b rd k h) (F.run_ranged_lem k h).duty_below
 
 -- where 14 is met, what 16 finds
 pub rowed : {b : List ℕ} {rd : Reading} → Formed b rd → rd.runs ≤ lowest overlaps (table_of b rd).runs → Rowed (table_of b rd).runs
 rowed {b} {rd} F h =
     let xs = (table_of b rd).runs in
     record {
-      apart = found-apart xs (omega (arith, table_runs b rd));
-      long = λ k l. let m : k < rd.runs = omega (arith, table_runs b rd) in rw (table-run b rd k m) (F.run-ranged k m).some-units;
+      apart = found_apart xs (omega (arith, table_runs b rd));
+      long = λ k l. let m : k < rd.runs = omega (arith, table_runs b rd) in rw (table_run b rd k m) (F.run_ranged_lem k m).some_units;
     }

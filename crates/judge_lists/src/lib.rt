@@ -8,8 +8,8 @@
 ghost use Rattle.std.specs.Prelude.{◌≡◌, ◌+◌, ◌≤◌, ◌<◌, length, get_or, set};
 ghost use Rattle.laws.proofs.Search.{Clear};
 ghost use Rattle.laws.proofs.SortedLists.{Below, Between, Recent, Sorted};
-ghost use Rattle.paper.specs.Limits.{mostRuns};
-ghost use Rattle.table_laws.proofs.SortedRuns.{kept, startsBefore, stopsAfter, twiceAt, Rowed};
+ghost use Rattle.paper.specs.Limits.{most_runs};
+ghost use Rattle.table_laws.proofs.SortedRuns.{kept, starts_before, stops_after, twice_at, Rowed};
 ghost use Rattle.record_read.specs.Formed.{Formed, table_of};
 
 use paper::Reading;
@@ -34,7 +34,7 @@ fn pointer_at(pointers: &[u16], spot: usize) -> usize
 fn starts_before(b: &[u8], rd: Reading, pointer: usize, unit: u32) -> bool
     requires formed { Formed b.now rd }
     requires pointer_le_runs { pointer ≤ rd.runs }
-    ensures { result ≡ startsBefore (table_of b.now rd).runs pointer unit }
+    ensures { result ≡ starts_before (table_of b.now rd).runs pointer unit }
 {
     if pointer == 0 {
         return false;
@@ -45,7 +45,7 @@ fn starts_before(b: &[u8], rd: Reading, pointer: usize, unit: u32) -> bool
 // Whether a spot is that of a run which stops after a unit starts. A front is no run.
 fn stops_after(b: &[u8], rd: Reading, spot: usize, unit: u32) -> bool
     requires { Formed b.now rd }
-    ensures { result ≡ stopsAfter (table_of b.now rd).runs spot unit }
+    ensures { result ≡ stops_after (table_of b.now rd).runs spot unit }
 {
     if spot >= rd.runs as usize {
         return false;
@@ -85,9 +85,9 @@ pub fn spot_of(b: &[u8], rd: Reading, pointers: &[u16], from: usize, k: usize) -
 // Whether run k breaks the rule, by its two neighbours in its duty's list: the one before it has not stopped as it starts, or the one after
 // it starts before it stops.
 pub fn is_twice(b: &[u8], rd: Reading, pointers: &[u16], spot: usize, k: usize) -> bool
-    requires { Formed b.now rd × Rowed (table_of b.now rd).runs × Clear (twiceAt (table_of b.now rd).runs) k
+    requires { Formed b.now rd × Rowed (table_of b.now rd).runs × Clear (twice_at (table_of b.now rd).runs) k
         × Between (kept (table_of b.now rd).runs) rd.duties k pointers.now spot }
-    ensures { result ≡ twiceAt (table_of b.now rd).runs k }
+    ensures { result ≡ twice_at (table_of b.now rd).runs k }
 {
     let y = run_of(b, rd, k);
     let unstopped = stops_after(b, rd, spot, y.first);
@@ -97,7 +97,7 @@ pub fn is_twice(b: &[u8], rd: Reading, pointers: &[u16], spot: usize, k: usize) 
 
 // The pointer that leads to run k.
 pub fn pointer_to(k: usize) -> u16
-    requires { k < mostRuns }
+    requires { k < most_runs }
     ensures { result ≡ k + 1 }
 {
     (k + 1) as u16
@@ -105,7 +105,7 @@ pub fn pointer_to(k: usize) -> u16
 
 // Puts run k into a list behind a spot: it leads to where the spot led, and the spot leads to it.
 pub fn insert(pointers: &mut [u16], spot: usize, k: usize)
-    requires { (k < mostRuns) × (k < length pointers.old) × (spot < length pointers.old) }
+    requires { (k < most_runs) × (k < length pointers.old) × (spot < length pointers.old) }
     ensures { pointers.new ≡ set (set pointers.old k (get_or pointers.old spot 0)) spot (k + 1) }
 {
     let next = pointers[spot];

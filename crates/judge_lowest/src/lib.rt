@@ -2,12 +2,12 @@
 // runs that do not add up to the slice. Rule 11 has no place: it is told whether it is broken.
 ghost use Rattle.std.specs.Prelude.{◌≡◌, ◌≤◌, ◌<◌};
 ghost use Rattle.paper.specs.Words.{undivided};
-ghost use Rattle.paper.specs.Limits.{mostTicks};
-ghost use Rattle.paper.specs.Builder.{badSlice};
-ghost use Rattle.paper.specs.Rules.{badSum};
+ghost use Rattle.paper.specs.Limits.{most_ticks};
+ghost use Rattle.paper.specs.Builder.{bad_slice};
+ghost use Rattle.paper.specs.Rules.{bad_sum};
 ghost use Rattle.record_read.specs.Formed.{Formed, table_of};
-ghost use Rattle.table_tally.specs.Tally.{unitsIn};
-ghost use Rattle.judge_lowest.specs.Breaks.{misfit, lowestMisfit, wrongSum};
+ghost use Rattle.table_tally.specs.Tally.{units_in};
+ghost use Rattle.judge_lowest.specs.Breaks.{misfit, lowest_misfit, wrong_sum};
 
 use paper::limits::MOST_DUTIES;
 use paper::{Duty, Reading};
@@ -23,7 +23,7 @@ pub enum Misfit {
 
 // Whether a duty does not fit the block length so.
 fn is_misfit(kind: Misfit, t: u32, x: Duty) -> bool
-    requires { (1 ≤ t) × (t ≤ mostTicks) × (x.service ≤ mostTicks) × (0 < x.period) }
+    requires { (1 ≤ t) × (t ≤ most_ticks) × (x.service ≤ most_ticks) × (0 < x.period) }
     ensures { result ≡ misfit kind t x }
 {
     match kind {
@@ -35,7 +35,7 @@ fn is_misfit(kind: Misfit, t: u32, x: Duty) -> bool
 // The lowest duty that does not fit so, or how many duties there are.
 fn lowest_misfit(b: &[u8], rd: Reading, kind: Misfit) -> usize
     requires { Formed b.now rd }
-    ensures { result ≡ lowestMisfit kind (table_of b.now rd) }
+    ensures { result ≡ lowest_misfit kind (table_of b.now rd) }
 {
     let n = rd.duties as usize;
     let mut d = 0;
@@ -59,7 +59,7 @@ pub fn is_undivided(b: &[u8], rd: Reading) -> bool
 // 12. The lowest duty with a slice that is not whole, or how many duties there are.
 pub fn bad_slice(b: &[u8], rd: Reading) -> usize
     requires { Formed b.now rd }
-    ensures { result ≡ badSlice (table_of b.now rd).ticks (table_of b.now rd).duties }
+    ensures { result ≡ bad_slice (table_of b.now rd).ticks (table_of b.now rd).duties }
 {
     lowest_misfit(b, rd, Misfit::Slice)
 }
@@ -67,8 +67,8 @@ pub fn bad_slice(b: &[u8], rd: Reading) -> usize
 // Whether the runs of duty i do not add up to its slice, by the units of each duty.
 fn is_wrong_sum(b: &[u8], rd: Reading, units: &[u32; MOST_DUTIES], i: usize) -> bool
     requires formed { Formed b.now rd }
-    requires units_value { (units.now ≡ unitsIn (table_of b.now rd)) × (i < rd.duties) }
-    ensures { result ≡ wrongSum (table_of b.now rd) i }
+    requires units_value { (units.now ≡ units_in (table_of b.now rd)) × (i < rd.duties) }
+    ensures { result ≡ wrong_sum (table_of b.now rd) i }
 {
     units[i] != slice_of(rd.block_length, duty_of(b, rd, i))
 }
@@ -76,8 +76,8 @@ fn is_wrong_sum(b: &[u8], rd: Reading, units: &[u32; MOST_DUTIES], i: usize) -> 
 // The lowest duty whose runs do not add up to its slice, or how many duties there are.
 pub fn bad_sum(b: &[u8], rd: Reading, units: &[u32; MOST_DUTIES]) -> usize
     requires formed { Formed b.now rd }
-    requires units_value { units.now ≡ unitsIn (table_of b.now rd) }
-    ensures { result ≡ badSum (table_of b.now rd) }
+    requires units_value { units.now ≡ units_in (table_of b.now rd) }
+    ensures { result ≡ bad_sum (table_of b.now rd) }
 {
     let n = rd.duties as usize;
     let mut i = 0;

@@ -1,7 +1,7 @@
 // What rules 13 to 15 look at in two runs alone, a run and its forerunner: whether the run stands wrong to it, in a way that a rule names.
 ghost use Rattle.std.specs.Prelude.{◌≡◌, ◌≤◌};
 ghost use Rattle.paper.specs.Words.{stop};
-ghost use Rattle.paper.specs.Limits.{mostTicks};
+ghost use Rattle.paper.specs.Limits.{most_ticks};
 ghost use Rattle.paper.specs.Rules.{before, meet};
 ghost use Rattle.table_laws.proofs.Forerunners.{wrong};
 ghost use Rattle.judge_pairs.specs.Amiss.{amiss};
@@ -21,7 +21,7 @@ fn is_before(x: Run, y: Run) -> bool
 
 // Whether two runs share a unit: each starts before the other stops.
 fn do_meet(x: Run, y: Run) -> bool
-    requires { (stop x ≤ mostTicks) × (stop y ≤ mostTicks) }
+    requires { (stop x ≤ most_ticks) × (stop y ≤ most_ticks) }
     ensures { result ≡ meet x y }
 {
     (x.first < y.first + y.length) & (y.first < x.first + x.length)
@@ -30,7 +30,7 @@ fn do_meet(x: Run, y: Run) -> bool
 // Whether the run y stands wrong to its forerunner x by any of the three rules, in one look: on x's row it starts before x stops, or, with
 // x's duty, where x stops; or its row is lower.
 fn is_wrong(x: Run, y: Run) -> bool
-    requires { (stop x ≤ mostTicks) × (1 ≤ x.length) }
+    requires { (stop x ≤ most_ticks) × (1 ≤ x.length) }
     ensures { result ≡ wrong x y }
 {
     let stop = x.first + x.length;
@@ -53,7 +53,7 @@ pub enum Amiss {
 
 // Whether the run y stands so to its forerunner x.
 pub fn is_amiss(kind: Amiss, x: Run, y: Run) -> bool
-    requires { (stop x ≤ mostTicks) × (stop y ≤ mostTicks) × (1 ≤ x.length) }
+    requires { (stop x ≤ most_ticks) × (stop y ≤ most_ticks) × (1 ≤ x.length) }
     ensures { result ≡ amiss kind x y }
 {
     let one_row = x.row.0 == y.row.0;

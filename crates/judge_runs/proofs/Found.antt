@@ -14,9 +14,9 @@ pub found_none : {A : Type 0} {place count r n : ℕ} (number : ℕ) (rest : Out
     → fault number place count rest ≡ rest
 found_none {place = place} {count = count} number rest p q h = rw (le-ltb place count (omega arith))
 
-pub found-one : {A : Type 0} {place count r n : ℕ} (number : ℕ) (rest : Outcome A) → r ≡ place → count ≡ n → r < n
+pub found_one : {A : Type 0} {place count r n : ℕ} (number : ℕ) (rest : Outcome A) → r ≡ place → count ≡ n → r < n
     → fault number place count rest ≡ refused number r
-found-one {place = place} {count = count} number rest p q h = rw (lt-ltb place count (omega arith), p)
+found_one {place = place} {count = count} number rest p q h = rw (lt-ltb place count (omega arith), p)
 
 pub refuses : {o : Outcome Table} {number place : ℕ} → o ≡ refused number place
     → ◌≡◌ {A = Outcome Reading} (refused number place) (and_then o (λ t. answer (reading_of t)))

@@ -4,12 +4,12 @@
 ghost use Rattle.std.specs.Prelude.{◌≡◌, ◌+◌, ◌≤◌};
 ghost use Rattle.laws.proofs.Search.{Comparing};
 ghost use Rattle.laws.proofs.SortedLists.{Blank};
-ghost use Rattle.paper.specs.Outcome.{answer, and_then, judgedAs};
+ghost use Rattle.paper.specs.Outcome.{answer, and_then, judged_as};
 ghost use Rattle.paper.specs.Rules.{overlaps, lowest, reading_of};
 ghost use Rattle.record_read.specs.Formed.{Formed, table_of};
 ghost use Rattle.table_laws.proofs.Forerunners.{wrongly};
-ghost use Rattle.table_tally.specs.Tally.{unitsIn};
-ghost use Rattle.judge_runs.specs.Halves.{judgeRows, judgeService};
+ghost use Rattle.table_tally.specs.Tally.{units_in};
+ghost use Rattle.judge_runs.specs.Halves.{judge_rows, judge_service};
 
 use judge_forerunners::{bad_order, first_amiss, lowest_joint, lowest_overlap};
 use judge_lowest::bad_sum;
@@ -20,7 +20,7 @@ use paper::{Fault, Judged, Reading};
 // 13 to 15, one after the other, where no run before `from` breaks any of them: the lowest fault, or the reading.
 fn search_rows(b: &[u8], rd: Reading, from: usize) -> Judged
     requires { Formed b.now rd × Comparing (wrongly (table_of b.now rd).runs) from }
-    ensures { judgedAs result ≡ and_then (judgeRows (table_of b.now rd)) (λ t. answer (reading_of t)) }
+    ensures { judged_as result ≡ and_then (judge_rows (table_of b.now rd)) (λ t. answer (reading_of t)) }
 {
     let runs = rd.runs as usize;
     let unordered = bad_order(b, rd, from);
@@ -41,7 +41,7 @@ fn search_rows(b: &[u8], rd: Reading, from: usize) -> Judged
 // 13 to 15: the lowest fault, or the reading.
 pub fn judge_rows(b: &[u8], rd: Reading) -> Judged
     requires { Formed b.now rd }
-    ensures { judgedAs result ≡ and_then (judgeRows (table_of b.now rd)) (λ t. answer (reading_of t)) }
+    ensures { judged_as result ≡ and_then (judge_rows (table_of b.now rd)) (λ t. answer (reading_of t)) }
 {
     let amiss = first_amiss(b, rd);
     if amiss < rd.runs as usize {
@@ -58,10 +58,10 @@ pub fn judge_service(
     last: &mut [u16],
     pointers: &mut [u16],
 ) -> Judged
-    requires { Formed b.now rd × (units.now ≡ unitsIn (table_of b.now rd))
+    requires { Formed b.now rd × (units.now ≡ units_in (table_of b.now rd))
         × Blank rd.duties last.old × Blank (rd.runs + rd.duties) pointers.old
         × (rd.runs ≤ lowest overlaps (table_of b.now rd).runs) }
-    ensures { judgedAs result ≡ and_then (judgeService (table_of b.now rd)) (λ t. answer (reading_of t)) }
+    ensures { judged_as result ≡ and_then (judge_service (table_of b.now rd)) (λ t. answer (reading_of t)) }
 {
     let twice = lowest_twice(b, rd, last, pointers);
     if twice < rd.runs as usize {

@@ -10,7 +10,7 @@ use native.Mathlib.Omega.{arith}
 use native.Mathlib.Numerals.{add-one}
 use lib.ListN.{length, get_or, drop, drop_of_length-le}
 use lib.Seq.{drop-cons}
-use Rattle.laws.specs.Divisor.{euclid, gcd, gcdOf}
+use Rattle.laws.specs.Divisor.{euclid, gcd, gcd_of}
 
 -- once there are more steps than b, one more changes nothing
 euclid-enough : (k b a : ℕ) → b < k → euclid (suc k) a b ≡ euclid k a b
@@ -31,10 +31,10 @@ pub gcd-zero : (a : ℕ) → gcd a 0 ≡ a
 unfolding gcd euclid
 gcd-zero a = refl
 
-pub gcd-step : (a b : ℕ) → 0 < b → gcd a b ≡ gcd b (a % b)
+pub gcd_step : (a b : ℕ) → 0 < b → gcd a b ≡ gcd b (a % b)
 unfolding gcd euclid
-gcd-step a zero h = absurd (not-suc-le-zero h)
-gcd-step a (suc b) h =
+gcd_step a zero h = absurd (not-suc-le-zero h)
+gcd_step a (suc b) h =
     let l : a % suc b < suc b = mod-lt a {m = suc b} (zero-lt-suc b) in
     let e : suc b ≡ suc (a % suc b) + (b - a % suc b) = omega arith in
     ap (λ (k : ℕ). euclid k (suc b) (a % suc b)) e ∙ euclid-any (b - a % suc b) (a % suc b) (suc b)
@@ -48,76 +48,76 @@ euclid-divides (suc k) a (suc b) h =
     let r = euclid-divides k (suc b) (a % suc b) (omega (arith, mod-lt a {m = suc b} (zero-lt-suc b))) in
     ((dvd-mod_iff (euclid k (suc b) (a % suc b)) r.0).0 r.1, r.0)
 
-pub gcd-left : (a b : ℕ) → gcd a b ∣ a
+pub gcd_left : (a b : ℕ) → gcd a b ∣ a
 unfolding gcd
-gcd-left a b = (euclid-divides (suc b) a b (omega arith)).0
+gcd_left a b = (euclid-divides (suc b) a b (omega arith)).0
 
-pub gcd-right : (a b : ℕ) → gcd a b ∣ b
+pub gcd_right : (a b : ℕ) → gcd a b ∣ b
 unfolding gcd
-gcd-right a b = (euclid-divides (suc b) a b (omega arith)).1
+gcd_right a b = (euclid-divides (suc b) a b (omega arith)).1
 
 -- whatever divides both divides it
-euclid-greatest : (k a b d : ℕ) → d ∣ a → d ∣ b → d ∣ euclid k a b
+euclid_greatest : (k a b d : ℕ) → d ∣ a → d ∣ b → d ∣ euclid k a b
 unfolding euclid
-euclid-greatest zero a b d p q = p
-euclid-greatest (suc k) a zero d p q = p
-euclid-greatest (suc k) a (suc b) d p q = euclid-greatest k (suc b) (a % suc b) d q ((dvd-mod_iff d q).1 p)
+euclid_greatest zero a b d p q = p
+euclid_greatest (suc k) a zero d p q = p
+euclid_greatest (suc k) a (suc b) d p q = euclid_greatest k (suc b) (a % suc b) d q ((dvd-mod_iff d q).1 p)
 
-pub gcd-greatest : (a b d : ℕ) → d ∣ a → d ∣ b → d ∣ gcd a b
+pub gcd_greatest : (a b d : ℕ) → d ∣ a → d ∣ b → d ∣ gcd a b
 unfolding gcd
-gcd-greatest a b d p q = euclid-greatest (suc b) a b d p q
+gcd_greatest a b d p q = euclid_greatest (suc b) a b d p q
 
 -- so it does not depend on the order
-pub gcd-comm : (a b : ℕ) → gcd a b ≡ gcd b a
-gcd-comm a b =
-    dvd_antisymm (gcd-greatest b a (gcd a b) (gcd-right a b) (gcd-left a b)) (gcd-greatest a b (gcd b a) (gcd-right b a) (gcd-left b a))
+pub gcd_comm : (a b : ℕ) → gcd a b ≡ gcd b a
+gcd_comm a b =
+    dvd_antisymm (gcd_greatest b a (gcd a b) (gcd_right a b) (gcd_left a b)) (gcd_greatest a b (gcd b a) (gcd_right b a) (gcd_left b a))
 
-pub gcd-assoc : (a b c : ℕ) → gcd (gcd a b) c ≡ gcd a (gcd b c)
-gcd-assoc a b c = dvd_antisymm there back
+pub gcd_assoc : (a b c : ℕ) → gcd (gcd a b) c ≡ gcd a (gcd b c)
+gcd_assoc a b c = dvd_antisymm there back
   where
     there : gcd (gcd a b) c ∣ gcd a (gcd b c)
     there =
-        let l = gcd-left (gcd a b) c in
-        gcd-greatest a (gcd b c) _ (dvd_trans _ l (gcd-left a b))
-        (gcd-greatest b c _ (dvd_trans _ l (gcd-right a b)) (gcd-right (gcd a b) c))
+        let l = gcd_left (gcd a b) c in
+        gcd_greatest a (gcd b c) _ (dvd_trans _ l (gcd_left a b))
+        (gcd_greatest b c _ (dvd_trans _ l (gcd_right a b)) (gcd_right (gcd a b) c))
 
     back : gcd a (gcd b c) ∣ gcd (gcd a b) c
     back =
-        let r = gcd-right a (gcd b c) in
-        gcd-greatest (gcd a b) c _ (gcd-greatest a b _ (gcd-left a (gcd b c)) (dvd_trans _ r (gcd-left b c)))
-        (dvd_trans _ r (gcd-right b c))
+        let r = gcd_right a (gcd b c) in
+        gcd_greatest (gcd a b) c _ (gcd_greatest a b _ (gcd_left a (gcd b c)) (dvd_trans _ r (gcd_left b c)))
+        (dvd_trans _ r (gcd_right b c))
 
 -- ---- of a list
 
 -- it divides every entry
-pub gcdOf-divides : (xs : List ℕ) (k : ℕ) → k < length xs → gcdOf xs ∣ get_or xs k 0
-unfolding gcdOf
-gcdOf-divides [] k h = absurd (not-suc-le-zero h)
-gcdOf-divides (x ∷ xs) zero h = gcd-left x (gcdOf xs)
-gcdOf-divides (x ∷ xs) (suc k) h = dvd_trans _ (gcd-right x (gcdOf xs)) (gcdOf-divides xs k (le_of_suc-le-suc h))
+pub gcd_of-divides : (xs : List ℕ) (k : ℕ) → k < length xs → gcd_of xs ∣ get_or xs k 0
+unfolding gcd_of
+gcd_of-divides [] k h = absurd (not-suc-le-zero h)
+gcd_of-divides (x ∷ xs) zero h = gcd_left x (gcd_of xs)
+gcd_of-divides (x ∷ xs) (suc k) h = dvd_trans _ (gcd_right x (gcd_of xs)) (gcd_of-divides xs k (le_of_suc-le-suc h))
 
 -- whatever divides every entry divides it
-pub gcdOf-greatest : (xs : List ℕ) (d : ℕ) → ((k : ℕ) → k < length xs → d ∣ get_or xs k 0) → d ∣ gcdOf xs
-unfolding gcdOf
-gcdOf-greatest [] d h = dvd-zero d
-gcdOf-greatest (x ∷ xs) d h = gcd-greatest x (gcdOf xs) d (h 0 (omega arith)) (gcdOf-greatest xs d (λ k l. h (suc k) (omega arith)))
+pub gcd_of_greatest : (xs : List ℕ) (d : ℕ) → ((k : ℕ) → k < length xs → d ∣ get_or xs k 0) → d ∣ gcd_of xs
+unfolding gcd_of
+gcd_of_greatest [] d h = dvd-zero d
+gcd_of_greatest (x ∷ xs) d h = gcd_greatest x (gcd_of xs) d (h 0 (omega arith)) (gcd_of_greatest xs d (λ k l. h (suc k) (omega arith)))
 
 -- so the common divisors of all entries are the divisors of the greatest
-pub gcdOf-common : (xs : List ℕ) (d : ℕ) → (d ∣ gcdOf xs) ↔ ((k : ℕ) → k < length xs → d ∣ get_or xs k 0)
-gcdOf-common xs d = ((λ h k l. dvd_trans d h (gcdOf-divides xs k l)), gcdOf-greatest xs d)
+pub gcd_of-common : (xs : List ℕ) (d : ℕ) → (d ∣ gcd_of xs) ↔ ((k : ℕ) → k < length xs → d ∣ get_or xs k 0)
+gcd_of-common xs d = ((λ h k l. dvd_trans d h (gcd_of-divides xs k l)), gcd_of_greatest xs d)
 
 -- a loop that goes through a list from its front keeps gcd g (gcdOf of what is left)
-pub gcd-through : (g x : ℕ) (xs : List ℕ) → gcd g (gcdOf (x ∷ xs)) ≡ gcd (gcd g x) (gcdOf xs)
-unfolding gcdOf
-gcd-through g x xs = sym (gcd-assoc g x (gcdOf xs))
+pub gcd_through : (g x : ℕ) (xs : List ℕ) → gcd g (gcd_of (x ∷ xs)) ≡ gcd (gcd g x) (gcd_of xs)
+unfolding gcd_of
+gcd_through g x xs = sym (gcd_assoc g x (gcd_of xs))
 
 pub gcd-start : (b : ℕ) → gcd 0 b ≡ b
-gcd-start b = gcd-comm 0 b ∙ gcd-zero b
+gcd-start b = gcd_comm 0 b ∙ gcd-zero b
 
 -- the same by what is left of the list at index i, and at its end
-pub gcd-further : (g i : ℕ) (xs : List ℕ) → i < length xs → gcd (gcd g (get_or xs i 0)) (gcdOf (drop (i + 1) xs)) ≡ gcd g (gcdOf (drop i xs))
-gcd-further g i xs h = rw (add-one, drop-cons xs i 0) (sym (gcd-through g (get_or xs i 0) (drop (suc i) xs)))
+pub gcd_further : (g i : ℕ) (xs : List ℕ) → i < length xs → gcd (gcd g (get_or xs i 0)) (gcd_of (drop (i + 1) xs)) ≡ gcd g (gcd_of (drop i xs))
+gcd_further g i xs h = rw (add-one, drop-cons xs i 0) (sym (gcd_through g (get_or xs i 0) (drop (suc i) xs)))
 
-pub gcd-finished : (g i : ℕ) (xs : List ℕ) → length xs ≤ i → gcd g (gcdOf (drop i xs)) ≡ g
-unfolding gcdOf
+pub gcd-finished : (g i : ℕ) (xs : List ℕ) → length xs ≤ i → gcd g (gcd_of (drop i xs)) ≡ g
+unfolding gcd_of
 gcd-finished g i xs h = rw (drop_of_length-le xs h) (gcd-zero g)

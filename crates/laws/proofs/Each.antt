@@ -35,14 +35,14 @@ at_each P d [] h = tt
 at_each P d (x ∷ xs) h = (h zero (omega arith), at_each P d xs (λ k l. h (suc k) (omega arith)))
 
 -- the entries made by f have P where the others have P of f
-pub each-of-map : {A B : Type 0} (P : B → Type 0) (f : A → B) (xs : List A) → Each (λ x. P (f x)) xs → Each P (map f xs)
-each-of-map P f [] h = tt
-each-of-map P f (x ∷ xs) h = (h.0, each-of-map P f xs h.1)
+pub each_of_map : {A B : Type 0} (P : B → Type 0) (f : A → B) (xs : List A) → Each (λ x. P (f x)) xs → Each P (map f xs)
+each_of_map P f [] h = tt
+each_of_map P f (x ∷ xs) h = (h.0, each_of_map P f xs h.1)
 
 -- an entry with a later one, by index
-pub pairs-at : {A : Type 0} (R : A → A → Type 0) (d : A) (xs : List A) → Pairs R xs → (j k : ℕ) → j < k → k < length xs
+pub pairs_at : {A : Type 0} (R : A → A → Type 0) (d : A) (xs : List A) → Pairs R xs → (j k : ℕ) → j < k → k < length xs
     → R (get_or xs j d) (get_or xs k d)
-pairs-at R d [] h j k a b = absurd (not-suc-le-zero b)
-pairs-at R d (x ∷ xs) h j zero a b = absurd (not-suc-le-zero a)
-pairs-at R d (x ∷ xs) h zero (suc k) a b = each_at (R x) d xs h.0 k (le_of_suc-le-suc b)
-pairs-at R d (x ∷ xs) h (suc j) (suc k) a b = pairs-at R d xs h.1 j k (le_of_suc-le-suc a) (le_of_suc-le-suc b)
+pairs_at R d [] h j k a b = absurd (not-suc-le-zero b)
+pairs_at R d (x ∷ xs) h j zero a b = absurd (not-suc-le-zero a)
+pairs_at R d (x ∷ xs) h zero (suc k) a b = each_at (R x) d xs h.0 k (le_of_suc-le-suc b)
+pairs_at R d (x ∷ xs) h (suc j) (suc k) a b = pairs_at R d xs h.1 j k (le_of_suc-le-suc a) (le_of_suc-le-suc b)

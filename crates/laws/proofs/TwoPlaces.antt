@@ -11,7 +11,7 @@ use native.Mathlib.Omega.{arith}
 use lib.ListN.{length, take, drop, length-append, length-drop, take-append-drop, drop_of_length-le}
 use lib.Seq.{length-take-le, take_at, drop_at, drop-drop, drop-append-le}
 use Rattle.laws.specs.Lists.{over}
-use Rattle.laws.proofs.Writing.{lent-rest, over-is}
+use Rattle.laws.proofs.Writing.{lent-rest, over_is}
 
 -- W up to a and U up to b are written; restW and restV are left of them, and xs is the buffer now
 pub record Both (W U l restW restV xs : List ℕ) (a b : ℕ) : Type 0 where
@@ -22,12 +22,12 @@ pub record Both (W U l restW restV xs : List ℕ) (a b : ℕ) : Type 0 where
   pub between : length gap ≡ length restW
   pub behind : length W + length v ≡ b
   pub is : xs ≡ w ++ (gap ++ (v ++ drop b l))
-  pub left-w : w ++ restW ≡ W
-  pub left-v : v ++ restV ≡ U
+  pub left_w : w ++ restW ≡ W
+  pub left_v : v ++ restV ≡ U
 
 -- nothing is written yet
-pub both-none : (W U l : List ℕ) → length W ≤ length l → Both W U l W U l 0 (length W)
-both-none W U l h =
+pub both_none : (W U l : List ℕ) → length W ≤ length l → Both W U l W U l 0 (length W)
+both_none W U l h =
     record {
       w = [];
       gap = take (length W) l;
@@ -36,8 +36,8 @@ both-none W U l h =
       between = length-take-le (length W) l h;
       behind = add-zero (length W);
       is = sym (take-append-drop (length W) l);
-      left-w = refl;
-      left-v = refl;
+      left_w = refl;
+      left_v = refl;
     }
 
 -- a part that was lent from behind u on, over whose front p was written
@@ -53,20 +53,20 @@ back_at u r p xs ys a e h q =
     rw (front, new, no_more, append-nil)
 
 -- the two places and what is left make up the whole lengths
-pub both-room :
+pub both_room :
     {W U l restW restV xs : List ℕ} {a b : ℕ} → Both W U l restW restV xs a b
     → (a + length restW ≡ length W) × (b + length restV ≡ length W + length U)
-both-room {W} {U} {l} {restW} {restV} {xs} {a} {b} r = (
-  omega (arith, r.front, ap length r.left-w, length-append r.w restW),
-  omega (arith, r.behind, ap length r.left-v, length-append r.v restV),
+both_room {W} {U} {l} {restW} {restV} {xs} {a} {b} r = (
+  omega (arith, r.front, ap length r.left_w, length-append r.w restW),
+  omega (arith, r.behind, ap length r.left_v, length-append r.v restV),
 )
 
 module _ {W U l restW restV xs : List ℕ} {a b : ℕ} (p ys : List ℕ) where
   -- after a call that was lent the buffer from a on, and wrote a part of W there
-  pub both-front :
+  pub both_front :
       Both W U l (p ++ restW) restV xs a b → ys ≡ over p (take (length xs - a) (drop a xs))
       → Both W U l restW restV (take a xs ++ (ys ++ drop (length xs - a) (drop a xs))) (a + length p) b
-  both-front r q =
+  both_front r q =
       let rest = r.v ++ drop b l in
       let long = r.between ∙ length-append p restW in
       let fits : length p ≤ length r.gap = omega (arith, long) in
@@ -78,11 +78,11 @@ module _ {W U l restW restV xs : List ℕ} {a b : ℕ} (p ys : List ℕ) where
         between = length-drop (length p) r.gap ∙ omega (arith, long);
         behind = r.behind;
         is = back_at r.w (r.gap ++ rest) p xs ys a r.is r.front q
-            ∙ ap (λ (t : List ℕ). r.w ++ t) (over-is p (r.gap ++ rest))
+            ∙ ap (λ (t : List ℕ). r.w ++ t) (over_is p (r.gap ++ rest))
             ∙ ap (λ (t : List ℕ). r.w ++ (p ++ t)) (drop-append-le (length p) r.gap rest fits)
             ∙ sym (append_assoc r.w p (drop (length p) r.gap ++ rest));
-        left-w = append_assoc r.w p restW ∙ r.left-w;
-        left-v = r.left-v;
+        left_w = append_assoc r.w p restW ∙ r.left_w;
+        left_v = r.left_v;
       }
 
   -- after a call that was lent the buffer from b on, and wrote a part of U there
@@ -93,7 +93,7 @@ module _ {W U l restW restV xs : List ℕ} {a b : ℕ} (p ys : List ℕ) where
       let u = r.w ++ (r.gap ++ r.v) in
       let long : length u ≡ b =
       length-append r.w (r.gap ++ r.v)
-      ∙ omega (arith, length-append r.gap r.v, r.between, r.behind, ap length r.left-w, length-append r.w restW) in
+      ∙ omega (arith, length-append r.gap r.v, r.between, r.behind, ap length r.left_w, length-append r.w restW) in
       let shape : xs ≡ u ++ drop b l = r.is ∙ simp append_assoc in
       record {
         w = r.w;
@@ -103,28 +103,28 @@ module _ {W U l restW restV xs : List ℕ} {a b : ℕ} (p ys : List ℕ) where
         between = r.between;
         behind = omega (arith, r.behind, length-append r.v p);
         is = back_at u (drop b l) p xs ys b shape long q
-            ∙ ap (λ (t : List ℕ). u ++ t) (over-is p (drop b l))
+            ∙ ap (λ (t : List ℕ). u ++ t) (over_is p (drop b l))
             ∙ ap (λ (t : List ℕ). u ++ (p ++ t)) (drop-drop (length p) b l) ∙ simp append_assoc;
-        left-w = r.left-w;
-        left-v = append_assoc r.v p restV ∙ r.left-v;
+        left_w = r.left_w;
+        left_v = append_assoc r.v p restV ∙ r.left_v;
       }
 
 -- what is left by another name
-pub both-next :
+pub both_next :
     {W U l restW restW' restV restV' xs : List ℕ} {a b : ℕ} → restW ≡ restW' → restV ≡ restV'
     → Both W U l restW restV xs a b → Both W U l restW' restV' xs a b
-both-next e f r = rw (← e, ← f) r
+both_next e f r = rw (← e, ← f) r
 
 -- the places by another name
-pub both-moved :
+pub both_moved :
     {W U l restW restV xs : List ℕ} {a a' b b' : ℕ} → a ≡ a' → b ≡ b' → Both W U l restW restV xs a b → Both W U l restW restV xs a' b'
-both-moved e f r = rw (← e, ← f) r
+both_moved e f r = rw (← e, ← f) r
 
 -- nothing is left
-pub both-done : {W U l xs : List ℕ} {a b : ℕ} → Both W U l [] [] xs a b → xs ≡ over (W ++ U) l
-both-done {W} {U} {l} {xs} {a} {b} r =
-    let w : r.w ≡ W = sym (append-nil r.w) ∙ r.left-w in
-    let v : r.v ≡ U = sym (append-nil r.v) ∙ r.left-v in
+pub both_done : {W U l xs : List ℕ} {a b : ℕ} → Both W U l [] [] xs a b → xs ≡ over (W ++ U) l
+both_done {W} {U} {l} {xs} {a} {b} r =
+    let w : r.w ≡ W = sym (append-nil r.w) ∙ r.left_w in
+    let v : r.v ≡ U = sym (append-nil r.v) ∙ r.left_v in
     let none : r.gap ≡ [] = drop_of_length-le r.gap {i = 0} (omega (arith, r.between)) in
     let end : b ≡ length (W ++ U) = sym r.behind ∙ ap (λ (t : List ℕ). length W + length t) v ∙ sym (length-append W U) in
-    r.is ∙ rw (w, v, none, end) (sym (append_assoc W U (drop (length (W ++ U)) l)) ∙ sym (over-is (W ++ U) l))
+    r.is ∙ rw (w, v, none, end) (sym (append_assoc W U (drop (length (W ++ U)) l)) ∙ sym (over_is (W ++ U) l))

@@ -15,9 +15,9 @@ unfolding over
 over_nothing l = refl
 
 -- what `over` is, for those who look into it
-pub over-is : (a l : List ℕ) → over a l ≡ a ++ drop (length a) l
+pub over_is : (a l : List ℕ) → over a l ≡ a ++ drop (length a) l
 unfolding over
-over-is a l = refl
+over_is a l = refl
 
 -- a part, then the next one behind it: both, over the front
 over-next : (w p l : List ℕ) → w ++ over p (drop (length w) l) ≡ over (w ++ p) l
@@ -52,7 +52,7 @@ more W l rest xs p ys a r e =
     record {
       w = r.w ++ p;
       len = length-append r.w p ∙ ap (λ (n : ℕ). n + length p) r.len;
-      is = rw (front, whole-tail, no_more, append-nil) (ap (λ (t : List ℕ). r.w ++ t) written ∙ over-next r.w p l);
+      is = rw (front, whole_tail, no_more, append-nil) (ap (λ (t : List ℕ). r.w ++ t) written ∙ over-next r.w p l);
       left = append_assoc r.w p rest ∙ r.left;
     }
   where
@@ -65,8 +65,8 @@ more W l rest xs p ys a r e =
     no_more : drop (length xs - a) (drop a xs) ≡ []
     no_more = drop_of_length-le (drop a xs) {i = length xs - a} (rw length-drop (omega arith))
 
-    whole-tail : ys ≡ over p (drop a xs)
-    whole-tail = e ∙ ap (over p) (lent-rest a xs)
+    whole_tail : ys ≡ over p (drop a xs)
+    whole_tail = e ∙ ap (over p) (lent-rest a xs)
 
     written : over p (drop a xs) ≡ over p (drop (length r.w) l)
     written = ap (over p) tail
@@ -126,8 +126,8 @@ grown {W} {l} {xs} {a} p ys n r e q =
     moved (ap (λ k. a + k) (sym e)) (more (W ++ p) l [] xs p ys a before q)
 
 -- with nothing left, the place is the length and the text stands over the front
-pub all-written : {W l xs : List ℕ} {a : ℕ} → Wrote W l [] xs a → (a ≡ length W) × (xs ≡ over W l)
-all-written {W} {l} {xs} {a} r = (sym (add-zero a) ∙ room r, done W l xs a r)
+pub all_written : {W l xs : List ℕ} {a : ℕ} → Wrote W l [] xs a → (a ≡ length W) × (xs ≡ over W l)
+all_written {W} {l} {xs} {a} r = (sym (add-zero a) ∙ room r, done W l xs a r)
 
 -- the text by another name
 pub renamed : {W W' l rest xs : List ℕ} {a : ℕ} → W ≡ W' → Wrote W l rest xs a → Wrote W' l rest xs a
@@ -135,4 +135,4 @@ renamed {W} {W'} {l} {rest} {xs} {a} e r = record { w = r.w; len = r.len; is = r
 
 -- what was written over the front is read back from there
 pub over-front : (w l : List ℕ) (n : ℕ) → length w ≡ n → take n (over w l) ≡ w
-over-front w l n e = ap (take n) (over-is w l) ∙ take_at w (drop (length w) l) n e
+over-front w l n e = ap (take n) (over_is w l) ∙ take_at w (drop (length w) l) n e

@@ -7,5 +7,5 @@ pick true a b = a
 pick false a b = b
 
 -- 1 where the test holds, else 0: what a count adds up
-abbrev pub one-if : Bool → ℕ
-one-if b = pick b 1 0
+abbrev pub one_if : Bool → ℕ
+one_if b = pick b 1 0

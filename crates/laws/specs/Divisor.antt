@@ -18,15 +18,15 @@ unfoldable pub gcd : ℕ → ℕ → ℕ
 gcd a b = euclid (suc b) a b
 
 -- of all numbers of a list; 0 for none
-unfoldable pub gcdOf : List ℕ → ℕ
-gcdOf [] = zero
-gcdOf (x ∷ xs) = gcd x (gcdOf xs)
+unfoldable pub gcd_of : List ℕ → ℕ
+gcd_of [] = zero
+gcd_of (x ∷ xs) = gcd x (gcd_of xs)
 
 -- the least number that both divide
 unfoldable pub lcm : ℕ → ℕ → ℕ
 lcm a b = a / gcd a b * b
 
 -- that all numbers of a list divide; 1 for none
-unfoldable pub lcmOf : List ℕ → ℕ
-lcmOf [] = 1
-lcmOf (x ∷ xs) = lcm x (lcmOf xs)
+unfoldable pub lcm_of : List ℕ → ℕ
+lcm_of [] = 1
+lcm_of (x ∷ xs) = lcm x (lcm_of xs)

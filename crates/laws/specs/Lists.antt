@@ -17,11 +17,11 @@ sum_of [] = zero
 sum_of (x ∷ xs) = x + sum_of xs
 
 -- the two lists are the same
-unfoldable pub same-list : List ℕ → List ℕ → Bool
-same-list [] [] = true
-same-list [] (y ∷ ys) = false
-same-list (x ∷ xs) [] = false
-same-list (x ∷ xs) (y ∷ ys) = eqb x y && same-list xs ys
+unfoldable pub same_list : List ℕ → List ℕ → Bool
+same_list [] [] = true
+same_list [] (y ∷ ys) = false
+same_list (x ∷ xs) [] = false
+same_list (x ∷ xs) (y ∷ ys) = eqb x y && same_list xs ys
 
 -- the buffer l with a written over its front
 unfoldable pub over : {A : Type 0} → List A → List A → List A

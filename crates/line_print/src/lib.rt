@@ -2,8 +2,8 @@
 // lent rest, and the writer tells how many bytes it took. The line of a refusal, which any part of the program may print.
 ghost use Rattle.std.specs.Prelude.{◌≤◌, [], ◌∷◌, length};
 ghost use Rattle.laws.specs.Lists.{flat};
-ghost use Rattle.paper.specs.Limits.{refusedLineRoom};
-ghost use Rattle.paper.specs.Text.{printLine, refusedWord};
+ghost use Rattle.paper.specs.Limits.{refused_line_room};
+ghost use Rattle.paper.specs.Text.{print_line, refused_word};
 ghost use Rattle.paper.specs.Outcome.{Puts};
 ghost use Rattle.number_print.specs.Spaced.{spaced};
 
@@ -27,8 +27,8 @@ fn print_numbers(out: &mut [u8], numbers: &[u64]) -> usize
 
 // A line with its word and its numbers.
 pub fn print_line(out: &mut [u8], word: &[u8], numbers: &[u64]) -> usize
-    requires { length (printLine word.now numbers.now) ≤ length out.old }
-    ensures { Puts (printLine word.now numbers.now) out.old out.new result }
+    requires { length (print_line word.now numbers.now) ≤ length out.old }
+    ensures { Puts (print_line word.now numbers.now) out.old out.new result }
 {
     put_bytes(out, word);
     let at = word.len();
@@ -39,8 +39,8 @@ pub fn print_line(out: &mut [u8], word: &[u8], numbers: &[u64]) -> usize
 
 // A refusal: number, place.
 pub fn print_refused(out: &mut [u8], why: Refusal) -> usize
-    requires { refusedLineRoom ≤ length out.old }
-    ensures { Puts (printLine refusedWord (why.number ∷ why.place ∷ [])) out.old out.new result }
+    requires { refused_line_room ≤ length out.old }
+    ensures { Puts (print_line refused_word (why.number ∷ why.place ∷ [])) out.old out.new result }
 {
     let number = why.number as u64;
     let place = why.place as u64;

@@ -1,8 +1,8 @@
 // A line of the plan program's input: where it ends, whether it is that of the engines or that of a duty, and what it says.
 ghost use Rattle.std.specs.Prelude.{◌≡◌, true, ◌≤◌, length, get_or, eqb};
 ghost use Rattle.laws.specs.Search.{first};
-ghost use Rattle.paper.specs.Text.{isDash, engineLineGood, enginesRead, dutyLineGood, dutyRead};
-ghost use Rattle.line_read.specs.Line.{firstGood, lineGood};
+ghost use Rattle.paper.specs.Text.{is_dash, engine_line_good, engines_read, duty_line_good, duty_read};
+ghost use Rattle.line_read.specs.Line.{first_good, line_good};
 
 use number_read::{is_number, value_of};
 use paper::Duty;
@@ -25,14 +25,14 @@ pub fn find(b: &[u8], x: u8) -> usize
 
 // Whether the first line is `-`.
 fn is_dash(c: &[u8]) -> bool
-    ensures { result ≡ isDash c.now }
+    ensures { result ≡ is_dash c.now }
 {
     if c.len() == 1 { c[0] == b'-' } else { false }
 }
 
 // Whether the first line names the engines, or leaves it at `-`.
 fn engine_line_good(c: &[u8]) -> bool
-    ensures { result ≡ engineLineGood c.now }
+    ensures { result ≡ engine_line_good c.now }
 {
     is_dash(c) | is_number(c)
 }
@@ -40,15 +40,15 @@ fn engine_line_good(c: &[u8]) -> bool
 // Whether the line before the line feed at `end` can be the first: it is ended, and names the engines or `-`.
 pub fn first_line_good(b: &[u8], end: usize) -> bool
     requires { end ≤ length b.now }
-    ensures { result ≡ firstGood b.now end }
+    ensures { result ≡ first_good b.now end }
 {
     (end < b.len()) & engine_line_good(&b[..end])
 }
 
 // The engines of the first line: `-` means 4.
 pub fn engines_read(c: &[u8]) -> u32
-    requires { engineLineGood c.now ≡ true }
-    ensures { result ≡ enginesRead c.now }
+    requires { engine_line_good c.now ≡ true }
+    ensures { result ≡ engines_read c.now }
 {
     if is_dash(c) {
         DEFAULT_ENGINES
@@ -59,7 +59,7 @@ pub fn engines_read(c: &[u8]) -> u32
 
 // Whether a line is a service and a period with one space between.
 fn duty_line_good(c: &[u8]) -> bool
-    ensures { result ≡ dutyLineGood c.now }
+    ensures { result ≡ duty_line_good c.now }
 {
     let space = find(c, b' ');
     if space == c.len() {
@@ -70,8 +70,8 @@ fn duty_line_good(c: &[u8]) -> bool
 
 // The duty of a line.
 pub fn duty_read(c: &[u8]) -> Duty
-    requires { dutyLineGood c.now ≡ true }
-    ensures { result ≡ dutyRead c.now }
+    requires { duty_line_good c.now ≡ true }
+    ensures { result ≡ duty_read c.now }
 {
     let space = find(c, b' ');
     let service = value_of(&c[..space]);
@@ -83,7 +83,7 @@ pub fn duty_read(c: &[u8]) -> Duty
 // and a period.
 pub fn line_good(rest: &[u8], end: usize, i: usize) -> bool
     requires { end ≤ length rest.now }
-    ensures { result ≡ lineGood i rest.now end }
+    ensures { result ≡ line_good i rest.now end }
 {
     (end < rest.len()) & (i < MOST_DUTIES) & duty_line_good(&rest[..end])
 }

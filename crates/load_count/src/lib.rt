@@ -1,9 +1,9 @@
 // The count of loads of a table that was judged, by its reading and the edges of its rows: nothing looks at the runs, and nothing walks
 // over blocks or ticks.
 ghost use Rattle.std.specs.Prelude.{◌≡◌, ◌+◌, ◌-◌, ◌*◌, ◌≤◌};
-ghost use Rattle.paper.specs.Limits.{mostBlocks, mostRuns};
+ghost use Rattle.paper.specs.Limits.{most_blocks, most_runs};
 ghost use Rattle.paper.specs.Walk.{loads};
-ghost use Rattle.paper.specs.Answers.{count_of, countAs};
+ghost use Rattle.paper.specs.Answers.{count_of, count_as};
 ghost use Rattle.record_read.specs.Formed.{table_of};
 ghost use Rattle.table_tally.specs.Ready.{Ready};
 
@@ -13,7 +13,7 @@ use paper::{Counted, Reading, Refusal};
 
 // The loads of some blocks: so many in the first, and in each later one but for those that are kept over the boundary.
 fn over_blocks(blocks: u64, loads: u64, kept: u64) -> u64
-    requires { (1 ≤ blocks) × (blocks ≤ mostBlocks) × (loads ≤ mostRuns) × (kept ≤ loads) }
+    requires { (1 ≤ blocks) × (blocks ≤ most_blocks) × (loads ≤ most_runs) × (kept ≤ loads) }
     ensures { result ≡ loads + (blocks - 1) * (loads - kept) }
 {
     loads + (blocks - 1) * (loads - kept)
@@ -21,7 +21,7 @@ fn over_blocks(blocks: u64, loads: u64, kept: u64) -> u64
 
 // The loads of the first blocks of the table in these bytes (which only the contract names): in the first there is one for each run.
 fn loads_in(b: &[u8], rd: Reading, edges: &[u32; EDGES], blocks: u64) -> u64
-    requires { Ready b.now rd edges.now × (blocks ≤ mostBlocks) }
+    requires { Ready b.now rd edges.now × (blocks ≤ most_blocks) }
     ensures { result ≡ loads (table_of b.now rd) blocks }
 {
     if blocks == 0 {
@@ -34,7 +34,7 @@ fn loads_in(b: &[u8], rd: Reading, edges: &[u32; EDGES], blocks: u64) -> u64
 // The count, or that there are too many blocks.
 pub fn count_in(b: &[u8], rd: Reading, edges: &[u32; EDGES], blocks: u64) -> Counted
     requires { Ready b.now rd edges.now }
-    ensures { countAs result ≡ count_of (table_of b.now rd) blocks }
+    ensures { count_as result ≡ count_of (table_of b.now rd) blocks }
 {
     if MOST_BLOCKS < blocks {
         return Counted::Refused(Refusal {

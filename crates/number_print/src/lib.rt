@@ -1,13 +1,13 @@
 // A number printed in decimal after a space, at the front of a lent rest; the writer tells how many bytes it took.
 ghost use Rattle.std.specs.Prelude.{◌≡◌, ◌≤◌, length};
-ghost use Rattle.paper.specs.Limits.{wordDigits};
+ghost use Rattle.paper.specs.Limits.{word_digits};
 ghost use Rattle.paper.specs.Text.{decimal};
 ghost use Rattle.paper.specs.Outcome.{Puts};
 ghost use Rattle.number_print.specs.Spaced.{spaced};
 
 // How many digits a number has in decimal.
 fn digit_count(n: u64) -> usize
-    ensures { (result ≡ length (decimal n)) × (result ≤ wordDigits) }
+    ensures { (result ≡ length (decimal n)) × (result ≤ word_digits) }
 {
     let mut count = 1;
     let mut left = n;

@@ -13,94 +13,94 @@ use lib.ListN.{length, get_or, drop, drop_of_length-le}
 use lib.Seq.{drop-cons}
 use borrow.Author.Tests.{le-leb}
 use Rattle.laws.proofs.Cases.{and_left, and_right}
-use Rattle.paper.specs.Limits.{mostDigits}
+use Rattle.paper.specs.Limits.{most_digits}
 use Rattle.paper.specs.Bytes.{within}
-use Rattle.paper.specs.Text.{allDigits, is_number, valueFrom, value}
+use Rattle.paper.specs.Text.{all_digits, is_number, value_from, value}
 use Rattle.paper.proofs.Passed.{within-told}
 
 -- whether bytes are digits, and the number that they write: by the first of them, and for none
-digits-first : (x : ℕ) (xs : List ℕ) → allDigits (x ∷ xs) ≡ within 48 57 x && allDigits xs
-unfolding allDigits
+digits-first : (x : ℕ) (xs : List ℕ) → all_digits (x ∷ xs) ≡ within 48 57 x && all_digits xs
+unfolding all_digits
 digits-first x xs = refl
 
-digits-none : allDigits [] ≡ true
-unfolding allDigits
-digits-none = refl
+digits_none : all_digits [] ≡ true
+unfolding all_digits
+digits_none = refl
 
-value-first : (v x : ℕ) (xs : List ℕ) → valueFrom v (x ∷ xs) ≡ valueFrom (v * 10 + (x - 48)) xs
-unfolding valueFrom
+value-first : (v x : ℕ) (xs : List ℕ) → value_from v (x ∷ xs) ≡ value_from (v * 10 + (x - 48)) xs
+unfolding value_from
 value-first v x xs = refl
 
-value_none : (v : ℕ) → valueFrom v [] ≡ v
-unfolding valueFrom
+value_none : (v : ℕ) → value_from v [] ≡ v
+unfolding value_from
 value_none v = refl
 
 -- what is left of the digits, one further, by whether the byte passed is a digit, and at the end
 pub digits_step : (c : List ℕ) (i : ℕ) (t : Bool) → i < length c → within 48 57 (get_or c i 0) ≡ t
-    → allDigits (drop i c) ≡ t && allDigits (drop (i + 1) c)
+    → all_digits (drop i c) ≡ t && all_digits (drop (i + 1) c)
 digits_step c i t h p = rw (add-one, drop-cons c i 0 h, ← p) (digits-first (get_or c i 0) (drop (suc i) c))
 
-pub digits-end : (c : List ℕ) (i : ℕ) → length c ≤ i → allDigits (drop i c) ≡ true
-digits-end c i h = rw (drop_of_length-le c h) digits-none
+pub digits_end : (c : List ℕ) (i : ℕ) → length c ≤ i → all_digits (drop i c) ≡ true
+digits_end c i h = rw (drop_of_length-le c h) digits_none
 
-pub value-step : (v : ℕ) (c : List ℕ) (i : ℕ) → i < length c
-    → valueFrom v (drop i c) ≡ valueFrom (v * 10 + (get_or c i 0 - 48)) (drop (i + 1) c)
-value-step v c i h = rw (add-one, drop-cons c i 0 h) (value-first v (get_or c i 0) (drop (suc i) c))
+pub value_step : (v : ℕ) (c : List ℕ) (i : ℕ) → i < length c
+    → value_from v (drop i c) ≡ value_from (v * 10 + (get_or c i 0 - 48)) (drop (i + 1) c)
+value_step v c i h = rw (add-one, drop-cons c i 0 h) (value-first v (get_or c i 0) (drop (suc i) c))
 
-pub value-end : (v : ℕ) (c : List ℕ) (i : ℕ) → length c ≤ i → valueFrom v (drop i c) ≡ v
-value-end v c i h = rw (drop_of_length-le c h) (value_none v)
+pub value_end : (v : ℕ) (c : List ℕ) (i : ℕ) → length c ≤ i → value_from v (drop i c) ≡ v
+value_end v c i h = rw (drop_of_length-le c h) (value_none v)
 
 -- more digits do not make it less
-value-least : (c : List ℕ) (v : ℕ) → v ≤ valueFrom v c
-value-least [] v = omega (arith, value_none v)
-value-least (x ∷ xs) v = omega (arith, value-first v x xs, value-least xs (v * 10 + (x - 48)))
+value_least : (c : List ℕ) (v : ℕ) → v ≤ value_from v c
+value_least [] v = omega (arith, value_none v)
+value_least (x ∷ xs) v = omega (arith, value-first v x xs, value_least xs (v * 10 + (x - 48)))
 
 -- among digits the first is one, and so are the others
-digits-split : (x : ℕ) (xs : List ℕ) → allDigits (x ∷ xs) ≡ true → (within 48 57 x ≡ true) × (allDigits xs ≡ true)
-digits-split x xs p =
+digits_split : (x : ℕ) (xs : List ℕ) → all_digits (x ∷ xs) ≡ true → (within 48 57 x ≡ true) × (all_digits xs ≡ true)
+digits_split x xs p =
     let both = sym (digits-first x xs) ∙ p in
-    (and_left (within 48 57 x) (allDigits xs) both, and_right (within 48 57 x) (allDigits xs) both)
+    (and_left (within 48 57 x) (all_digits xs) both, and_right (within 48 57 x) (all_digits xs) both)
 
 -- a byte among digits is one
-pub digit_at : (c : List ℕ) (i : ℕ) → allDigits c ≡ true → i < length c → (48 ≤ get_or c i 0) × (get_or c i 0 ≤ 57)
+pub digit_at : (c : List ℕ) (i : ℕ) → all_digits c ≡ true → i < length c → (48 ≤ get_or c i 0) × (get_or c i 0 ≤ 57)
 digit_at [] i p h = absurd (not-suc-le-zero h)
-digit_at (x ∷ xs) zero p h = within-told 48 57 x (digits-split x xs p).0
-digit_at (x ∷ xs) (suc i) p h = digit_at xs i (digits-split x xs p).1 (le_of_suc-le-suc h)
+digit_at (x ∷ xs) zero p h = within-told 48 57 x (digits_split x xs p).0
+digit_at (x ∷ xs) (suc i) p h = digit_at xs i (digits_split x xs p).1 (le_of_suc-le-suc h)
 
 -- n digits after v stay below v + 1 and n zeros
-value-below : (c : List ℕ) (v : ℕ) → allDigits c ≡ true → valueFrom v c < suc v * 10 ^ length c
-value-below [] v p = omega (arith, value_none v)
-value-below (x ∷ xs) v p =
+value_below : (c : List ℕ) (v : ℕ) → all_digits c ≡ true → value_from v c < suc v * 10 ^ length c
+value_below [] v p = omega (arith, value_none v)
+value_below (x ∷ xs) v p =
     let d = digit_at (x ∷ xs) 0 p (omega arith) in
-    let r = value-below xs (v * 10 + (x - 48)) (digits-split x xs p).1 in
+    let r = value_below xs (v * 10 + (x - 48)) (digits_split x xs p).1 in
     let le : suc (v * 10 + (x - 48)) ≤ suc v * 10 = omega arith in
     rw pow-suc (omega (arith, value-first v x xs, r, mul-le-mul_right (10 ^ length xs) le))
 
 -- a number is nine digits at the most ..
-pub number_digits : (c : List ℕ) → is_number c ≡ true → (length c ≤ mostDigits) × (allDigits c ≡ true)
+pub number_digits : (c : List ℕ) → is_number c ≡ true → (length c ≤ most_digits) × (all_digits c ≡ true)
 number_digits c p =
-    let many = within 1 mostDigits (length c) in
-    let q = and_left (many && allDigits c) (eqb (length c) 1 || not (eqb (get_or c 0 0) 48)) p in
-    ((within-told 1 mostDigits (length c) (and_left many (allDigits c) q)).1, and_right many (allDigits c) q)
+    let many = within 1 most_digits (length c) in
+    let q = and_left (many && all_digits c) (eqb (length c) 1 || not (eqb (get_or c 0 0) 48)) p in
+    ((within-told 1 most_digits (length c) (and_left many (all_digits c) q)).1, and_right many (all_digits c) q)
 
 -- .. so below 1,000,000,000 ..
-number-below : (c : List ℕ) → is_number c ≡ true → value c < 10 ^ mostDigits
-number-below c p =
+number_below : (c : List ℕ) → is_number c ≡ true → value c < 10 ^ most_digits
+number_below c p =
     let d = number_digits c p in
-    omega (arith, value-below c 0 d.1, pow-le-pow_right {n = 10} (omega arith) {i = length c} {j = mostDigits} d.0)
+    omega (arith, value_below c 0 d.1, pow-le-pow_right {n = 10} (omega arith) {i = length c} {j = most_digits} d.0)
 
 -- .. and every value on the way too
-pub next-below : (v : ℕ) (c : List ℕ) (i : ℕ) → is_number c ≡ true → i < length c → valueFrom v (drop i c) ≡ value c
-    → v * 10 + (get_or c i 0 - 48) < 10 ^ mostDigits
-next-below v c i p h e =
-    omega (arith, number-below c p, value-step v c i h, value-least (drop (i + 1) c) (v * 10 + (get_or c i 0 - 48)))
+pub next_below : (v : ℕ) (c : List ℕ) (i : ℕ) → is_number c ≡ true → i < length c → value_from v (drop i c) ≡ value c
+    → v * 10 + (get_or c i 0 - 48) < 10 ^ most_digits
+next_below v c i p h e =
+    omega (arith, number_below c p, value_step v c i h, value_least (drop (i + 1) c) (v * 10 + (get_or c i 0 - 48)))
 
 -- no bytes write no number
-pub number-none : (c : List ℕ) → length c ≤ 0 → is_number c ≡ false
-number-none [] h = refl
-number-none (x ∷ xs) h = absurd (omega arith)
+pub number_none : (c : List ℕ) → length c ≤ 0 → is_number c ≡ false
+number_none [] h = refl
+number_none (x ∷ xs) h = absurd (omega arith)
 
 -- where there are some, all but one of the tests are left
-pub number-some : (c : List ℕ) → 1 ≤ length c
-    → is_number c ≡ leb (length c) mostDigits && allDigits c && (eqb (length c) 1 || not (eqb (get_or c 0 0) 48))
-number-some c h = rw (le-leb 1 (length c) h)
+pub number_some : (c : List ℕ) → 1 ≤ length c
+    → is_number c ≡ leb (length c) most_digits && all_digits c && (eqb (length c) 1 || not (eqb (get_or c 0 0) 48))
+number_some c h = rw (le-leb 1 (length c) h)

@@ -1,20 +1,20 @@
 // A number in the plan program's input: 1 to 9 decimal digits, judged and read.
 ghost use Rattle.std.specs.Prelude.{◌≡◌, true};
 ghost use Rattle.paper.specs.Bytes.{within};
-ghost use Rattle.paper.specs.Text.{zeroDigit, nineDigit, allDigits, is_number, value};
+ghost use Rattle.paper.specs.Text.{zero_digit, nine_digit, all_digits, is_number, value};
 
 use paper::limits::MOST_DIGITS;
 
 // Whether a byte is one of `0` to `9`.
 fn is_digit(x: u8) -> bool
-    ensures { result ≡ within zeroDigit nineDigit x }
+    ensures { result ≡ within zero_digit nine_digit x }
 {
     (b'0' <= x) & (x <= b'9')
 }
 
 // Whether all of the bytes are digits.
 fn all_digits(c: &[u8]) -> bool
-    ensures { result ≡ allDigits c.now }
+    ensures { result ≡ all_digits c.now }
 {
     let mut i = 0;
     while i < c.len() {

@@ -11,36 +11,36 @@ use native.Mathlib.Nat.{zero-mul, suc-mul, add-suc}
 use native.Mathlib.Numerals.{add-one}
 use native.Mathlib.Omega.{arith}
 use lib.Arith.{digits_div, digits_mod}
-use Rattle.laws.specs.Choice.{one-if}
+use Rattle.laws.specs.Choice.{one_if}
 use Rattle.laws.specs.Sum.{sum_to}
 use Rattle.laws.proofs.Cases.{by_cases}
-use Rattle.laws.proofs.Sum.{sum-ext, sum-suc, sum-none, sum_one, sum_first, sum-plus, sum-swap, sum-blocks}
+use Rattle.laws.proofs.Sum.{sum_ext, sum_suc, sum_none, sum_one, sum_first, sum_plus, sum_swap, sum_blocks}
 use Rattle.paper.specs.declared.Engine.{Engine}
 use Rattle.paper.specs.declared.Held.{Held}
 use Rattle.paper.specs.declared.Held.TheVariants.{Idle, By}
 use Rattle.paper.specs.Duties.{engine, same, busy}
-use Rattle.paper.specs.Words.{row, Table, heldIn}
+use Rattle.paper.specs.Words.{row, Table, held_in}
 use Rattle.paper.specs.Rotation.{link, next_of, row_at}
 use Rattle.paper.specs.Walk.{walk, loads}
-use Rattle.paper.specs.Schedule.{Schedule, load, loadsIn}
-use Rattle.paper.proofs.Holding.{same-sym}
+use Rattle.paper.specs.Schedule.{Schedule, load, loads_in}
+use Rattle.paper.proofs.Holding.{same_sym}
 use Rattle.paper.proofs.Links.{Closed, rows_end}
-use Rattle.paper.proofs.Rotation.{next-sum, row_next, row-sum}
+use Rattle.paper.proofs.Rotation.{next_sum, row_next, row_sum}
 
 -- 1 where a duty is run now that was not run before
 abbrev pub fresh : Held → Held → ℕ
-fresh now before = one-if (busy now && not (same now before))
+fresh now before = one_if (busy now && not (same now before))
 
 -- the loads of a row's engine: at unit 0 in the first block, and at the units after it in every block
 unfoldable pub opening : Table → ℕ → ℕ
-opening t r = one-if (busy (heldIn t.runs (row r) 0))
+opening t r = one_if (busy (held_in t.runs (row r) 0))
 
 unfoldable pub inside : Table → ℕ → ℕ
-inside t r = sum_to (t.ticks - 1) (λ u. fresh (heldIn t.runs (row r) (suc u)) (heldIn t.runs (row r) u))
+inside t r = sum_to (t.ticks - 1) (λ u. fresh (held_in t.runs (row r) (suc u)) (held_in t.runs (row r) u))
 
 -- the load at unit 0 of the engine that had row r in the block before
 unfoldable pub boundary : Table → ℕ → ℕ
-boundary t r = fresh (heldIn t.runs (row (next_of (link t) r)) 0) (heldIn t.runs (row r) (t.ticks - 1))
+boundary t r = fresh (held_in t.runs (row (next_of (link t) r)) 0) (held_in t.runs (row r) (t.ticks - 1))
 
 -- the loads of a block after the first
 unfoldable pub later : Table → ℕ
@@ -48,142 +48,142 @@ later t = sum_to t.engines (boundary t) + sum_to t.engines (inside t)
 
 -- the duty at the end of row r goes on over the boundary: the engine that had r has it at unit 0 of its next row too
 unfoldable pub carries : Table → ℕ → Bool
-carries t r = same (heldIn t.runs (row r) (t.ticks - 1)) (heldIn t.runs (row (next_of (link t) r)) 0)
+carries t r = same (held_in t.runs (row r) (t.ticks - 1)) (held_in t.runs (row (next_of (link t) r)) 0)
 
 -- at how many rows it does
 unfoldable pub carried : Table → ℕ
-carried t = sum_to t.engines (λ r. one-if (carries t r))
+carried t = sum_to t.engines (λ r. one_if (carries t r))
 
 -- what an engine runs at unit u of block b is what its row of that block has there
-pub walk_at : (t : Table) (e : Engine) (b u : ℕ) → u < t.ticks → walk t e (b * t.ticks + u) ≡ heldIn t.runs (row_at (link t) b e) u
+pub walk_at : (t : Table) (e : Engine) (b u : ℕ) → u < t.ticks → walk t e (b * t.ticks + u) ≡ held_in t.runs (row_at (link t) b e) u
 unfolding walk
 walk_at t e b u h = rw (digits_div b {m = t.ticks} {r = u} h, digits_mod b {m = t.ticks} {r = u} h)
 
 -- a load at a tick k that is after j, and at tick 0
-load_after : (s : Schedule) (e : Engine) (k j : ℕ) → k ≡ suc j → one-if (load s e k) ≡ fresh (s e k) (s e j)
+load_after : (s : Schedule) (e : Engine) (k j : ℕ) → k ≡ suc j → one_if (load s e k) ≡ fresh (s e k) (s e j)
 unfolding load
 load_after s e k j p = rw p
 
-load-zero : (s : Schedule) (e : Engine) (k : ℕ) → k ≡ 0 → one-if (load s e k) ≡ one-if (busy (s e k))
+load-zero : (s : Schedule) (e : Engine) (k : ℕ) → k ≡ 0 → one_if (load s e k) ≡ one_if (busy (s e k))
 unfolding load
 load-zero s e k p = rw p
 
 -- the loads of engine e at unit u of block b
-abbrev loadAt : Table → ℕ → ℕ → ℕ → ℕ
-loadAt t e b u = one-if (load (walk t) (engine e) (b * t.ticks + u))
+abbrev load_at : Table → ℕ → ℕ → ℕ → ℕ
+load_at t e b u = one_if (load (walk t) (engine e) (b * t.ticks + u))
 
 -- at a unit after the first they are those of its row
 load_inside : (t : Table) (e b u : ℕ) → suc u < t.ticks →
-    loadAt t e b (suc u) ≡ fresh (heldIn t.runs (row_at (link t) b (engine e)) (suc u)) (heldIn t.runs (row_at (link t) b (engine e)) u)
+    load_at t e b (suc u) ≡ fresh (held_in t.runs (row_at (link t) b (engine e)) (suc u)) (held_in t.runs (row_at (link t) b (engine e)) u)
 load_inside t e b u h =
     load_after (walk t) (engine e) (b * t.ticks + suc u) (b * t.ticks + u) (add-suc (b * t.ticks) u)
     ∙ rw (walk_at t (engine e) b (suc u) h, walk_at t (engine e) b u (omega arith))
 
 -- at unit 0 of the first block
-load-opening : (t : Table) (e : ℕ) → 1 ≤ t.ticks → loadAt t e 0 0 ≡ opening t (row_at (link t) 0 (engine e)).0
+load-opening : (t : Table) (e : ℕ) → 1 ≤ t.ticks → load_at t e 0 0 ≡ opening t (row_at (link t) 0 (engine e)).0
 unfolding opening
 load-opening t e h =
     load-zero (walk t) (engine e) (0 * t.ticks + 0) (omega (arith, zero-mul t.ticks))
-    ∙ ap (λ g. one-if (busy g)) (walk_at t (engine e) 0 0 h)
+    ∙ ap (λ g. one_if (busy g)) (walk_at t (engine e) 0 0 h)
 
 -- at unit 0 of a later block they turn on the row before
-load-boundary : (t : Table) (e b : ℕ) → 1 ≤ t.ticks → loadAt t e (suc b) 0 ≡ boundary t (row_at (link t) b (engine e)).0
+load-boundary : (t : Table) (e b : ℕ) → 1 ≤ t.ticks → load_at t e (suc b) 0 ≡ boundary t (row_at (link t) b (engine e)).0
 unfolding boundary
 load-boundary t e b h =
     load_after (walk t) (engine e) (suc b * t.ticks + 0) (b * t.ticks + (t.ticks - 1)) (omega (arith, suc-mul b t.ticks))
     ∙ rw (walk_at t (engine e) (suc b) 0 h, walk_at t (engine e) b (t.ticks - 1) (omega arith), row_next (link t) b (engine e))
 
 -- the loads of engine e in block b: those at unit 0, and those of its row
-engine-loads : (t : Table) (e b : ℕ) → 1 ≤ t.ticks → sum_to t.ticks (loadAt t e b)
-    ≡ loadAt t e b 0 + inside t (row_at (link t) b (engine e)).0
+engine-loads : (t : Table) (e b : ℕ) → 1 ≤ t.ticks → sum_to t.ticks (load_at t e b)
+    ≡ load_at t e b 0 + inside t (row_at (link t) b (engine e)).0
 unfolding inside
 engine-loads t e b h =
     let z : t.ticks ≡ suc (t.ticks - 1) = omega arith in
-    ap (λ n. sum_to n (loadAt t e b)) z
-    ∙ sum_first (t.ticks - 1) (loadAt t e b)
-    ∙ ap (λ n. loadAt t e b 0 + n) (sum-ext (t.ticks - 1) (λ u. loadAt t e b (suc u)) _ (λ u l. load_inside t e b u (omega arith)))
+    ap (λ n. sum_to n (load_at t e b)) z
+    ∙ sum_first (t.ticks - 1) (load_at t e b)
+    ∙ ap (λ n. load_at t e b 0 + n) (sum_ext (t.ticks - 1) (λ u. load_at t e b (suc u)) _ (λ u l. load_inside t e b u (omega arith)))
 
 -- ---- what is carried over a boundary
 
 -- where one duty holds both there is no load, and where none does each busy unit is one
-fresh-same : (now before : Held) → fresh now before + one-if (same now before) ≡ one-if (busy now)
+fresh-same : (now before : Held) → fresh now before + one_if (same now before) ≡ one_if (busy now)
 unfolding same
 fresh-same Idle before = refl
 fresh-same (By i) before = by_cases (same (By i) before) (λ p. rw p) (λ p. rw p)
 
 -- at the boundary after row r: a load, or carried, or nothing to run
-boundary-carries : (t : Table) (r : ℕ) → boundary t r + one-if (carries t r) ≡ opening t (next_of (link t) r)
+boundary-carries : (t : Table) (r : ℕ) → boundary t r + one_if (carries t r) ≡ opening t (next_of (link t) r)
 unfolding boundary carries opening
 boundary-carries t r =
-    let now : Held = heldIn t.runs (row (next_of (link t) r)) 0 in
-    let before : Held = heldIn t.runs (row r) (t.ticks - 1) in
-    ap (λ b. fresh now before + one-if b) (same-sym before now) ∙ fresh-same now before
+    let now : Held = held_in t.runs (row (next_of (link t) r)) 0 in
+    let before : Held = held_in t.runs (row r) (t.ticks - 1) in
+    ap (λ b. fresh now before + one_if b) (same_sym before now) ∙ fresh-same now before
 
 module _ (t : Table) (ok : Closed t) where
   -- the loads of block b
-  blockLoads : ℕ → ℕ
-  blockLoads b = sum_to t.ticks (λ u. sum_to t.engines (λ e. loadAt t e b u))
+  block_loads : ℕ → ℕ
+  block_loads b = sum_to t.ticks (λ u. sum_to t.engines (λ e. load_at t e b u))
 
   -- .. engine by engine: where the loads at unit 0 are those that f tells of the engines' rows in block a, they are f's of all rows, and
   -- those inside all rows
-  block-loads :
-      (b a : ℕ) (f : ℕ → ℕ) → ((e : ℕ) → loadAt t e b 0 ≡ f (row_at (link t) a (engine e)).0)
-      → blockLoads b ≡ sum_to t.engines f + sum_to t.engines (inside t)
-  unfolding blockLoads
-  block-loads b a f opens =
-      sum-swap t.ticks t.engines (λ u e. loadAt t e b u)
-      ∙ sum-ext t.engines (λ e. sum_to t.ticks (loadAt t e b)) _ (λ e h. engine-loads t e b ok.some-tick)
-      ∙ sum-plus t.engines (λ e. loadAt t e b 0) (λ e. inside t (row_at (link t) b (engine e)).0)
+  block_loads_lem :
+      (b a : ℕ) (f : ℕ → ℕ) → ((e : ℕ) → load_at t e b 0 ≡ f (row_at (link t) a (engine e)).0)
+      → block_loads b ≡ sum_to t.engines f + sum_to t.engines (inside t)
+  unfolding block_loads
+  block_loads_lem b a f opens =
+      sum_swap t.ticks t.engines (λ u e. load_at t e b u)
+      ∙ sum_ext t.engines (λ e. sum_to t.ticks (load_at t e b)) _ (λ e h. engine-loads t e b ok.some_tick)
+      ∙ sum_plus t.engines (λ e. load_at t e b 0) (λ e. inside t (row_at (link t) b (engine e)).0)
       ∙ ap (λ n. n + sum_to t.engines (λ e. inside t (row_at (link t) b (engine e)).0))
-      (sum-ext t.engines (λ e. loadAt t e b 0) _ (λ e h. opens e) ∙ row-sum (link t) t.engines (rows_end t ok) a f)
-      ∙ ap (λ n. sum_to t.engines f + n) (row-sum (link t) t.engines (rows_end t ok) b (inside t))
+      (sum_ext t.engines (λ e. load_at t e b 0) _ (λ e h. opens e) ∙ row_sum (link t) t.engines (rows_end t ok) a f)
+      ∙ ap (λ n. sum_to t.engines f + n) (row_sum (link t) t.engines (rows_end t ok) b (inside t))
 
   -- the first block
-  block-first : blockLoads 0 ≡ sum_to t.engines (opening t) + sum_to t.engines (inside t)
-  block-first = block-loads 0 0 (opening t) (λ e. load-opening t e ok.some-tick)
+  block_first : block_loads 0 ≡ sum_to t.engines (opening t) + sum_to t.engines (inside t)
+  block_first = block_loads_lem 0 0 (opening t) (λ e. load-opening t e ok.some_tick)
 
   -- every later block
-  block-later : (b : ℕ) → blockLoads (suc b) ≡ later t
+  block_later : (b : ℕ) → block_loads (suc b) ≡ later t
   unfolding later
-  block-later b = block-loads (suc b) b (boundary t) (λ e. load-boundary t e b ok.some-tick)
+  block_later b = block_loads_lem (suc b) b (boundary t) (λ e. load-boundary t e b ok.some_tick)
 
   -- the count by blocks
-  loads-blocks : (n : ℕ) → loads t n ≡ sum_to n blockLoads
-  unfolding loads loadsIn blockLoads
-  loads-blocks n = sum-blocks n t.ticks (λ k. sum_to t.engines (λ e. one-if (load (walk t) (engine e) k)))
+  loads_blocks : (n : ℕ) → loads t n ≡ sum_to n block_loads
+  unfolding loads loads_in block_loads
+  loads_blocks n = sum_blocks n t.ticks (λ k. sum_to t.engines (λ e. one_if (load (walk t) (engine e) k)))
 
   -- no loads in no blocks
-  pub loads-none : loads t 0 ≡ 0
-  loads-none = loads-blocks 0 ∙ sum-none blockLoads
+  pub loads_none : loads t 0 ≡ 0
+  loads_none = loads_blocks 0 ∙ sum_none block_loads
 
   -- the loads of block 0: at unit 0 of all rows, and inside them
-  pub loads-first : loads t 1 ≡ sum_to t.engines (opening t) + sum_to t.engines (inside t)
-  loads-first = loads-blocks 1 ∙ sum_one blockLoads ∙ block-first
+  pub loads_first : loads t 1 ≡ sum_to t.engines (opening t) + sum_to t.engines (inside t)
+  loads_first = loads_blocks 1 ∙ sum_one block_loads ∙ block_first
 
   -- every later block adds the same
-  pub loads-more : (n : ℕ) → loads t (suc (suc n)) ≡ loads t (suc n) + later t
-  loads-more n = omega (arith, loads-blocks (suc (suc n)), loads-blocks (suc n), sum-suc (suc n) blockLoads, block-later n)
+  pub loads_more : (n : ℕ) → loads t (suc (suc n)) ≡ loads t (suc n) + later t
+  loads_more n = omega (arith, loads_blocks (suc (suc n)), loads_blocks (suc n), sum_suc (suc n) block_loads, block_later n)
 
   -- the count in closed form
-  pub loads-closed : (n : ℕ) → loads t (n + 1) ≡ loads t 1 + n * later t
-  loads-closed n = rw (add-one n) (go n)
+  pub loads_closed : (n : ℕ) → loads t (n + 1) ≡ loads t 1 + n * later t
+  loads_closed n = rw (add-one n) (go n)
     where
       go : (n : ℕ) → loads t (suc n) ≡ loads t 1 + n * later t
       go zero = omega (arith, zero-mul (later t))
-      go (suc n) = omega (arith, loads-more n, go n, suc-mul n (later t))
+      go (suc n) = omega (arith, loads_more n, go n, suc-mul n (later t))
 
   -- a later block's loads are those that the second block adds
-  pub later-is : loads t 2 ≡ loads t 1 + later t
-  later-is = loads-more 0
+  pub later_is : loads t 2 ≡ loads t 1 + later t
+  later_is = loads_more 0
 
   -- a later block has the loads of the first, but for the rows whose duty is carried over the boundary
-  pub later-carried : later t + carried t ≡ loads t 1
+  pub later_carried : later t + carried t ≡ loads t 1
   unfolding later carried
-  later-carried =
+  later_carried =
       omega (
         arith,
-        loads-first,
-        sum-plus t.engines (boundary t) (λ r. one-if (carries t r)),
-        sum-ext t.engines (λ r. boundary t r + one-if (carries t r)) (λ r. opening t (next_of (link t) r)) (λ r h. boundary-carries t r),
-        next-sum (link t) t.engines (rows_end t ok) (opening t),
+        loads_first,
+        sum_plus t.engines (boundary t) (λ r. one_if (carries t r)),
+        sum_ext t.engines (λ r. boundary t r + one_if (carries t r)) (λ r. opening t (next_of (link t) r)) (λ r h. boundary-carries t r),
+        next_sum (link t) t.engines (rows_end t ok) (opening t),
       )

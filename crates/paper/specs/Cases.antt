@@ -17,35 +17,35 @@ use Rattle.paper.specs.Rotation.{chain, link, row_at, chains}
 use Rattle.paper.specs.Walk.{walk, loads}
 use Rattle.paper.specs.Outcome.{Outcome, refused, answer}
 use Rattle.paper.specs.Bytes.{bytes_of}
-use Rattle.paper.specs.Wanted.{wantedOf}
+use Rattle.paper.specs.Wanted.{wanted_of}
 use Rattle.paper.specs.Builder.{plan}
-use Rattle.paper.specs.Text.{planText}
+use Rattle.paper.specs.Text.{plan_text}
 
 -- ---- what can be stated of a set
 
 pub data Fact : Type 0 where
   -- it is refused
-  refusedWith : (number place : ℕ) → Fact
+  refused_with : (number place : ℕ) → Fact
   -- else there is a table: its block length, engines, duties and their slices
-  blockLength : (ticks : ℕ) → Fact
-  engineCount : ℕ → Fact
-  dutiesAre : List Duty → Fact
-  slicesAre : List ℕ → Fact
+  block_length : (ticks : ℕ) → Fact
+  engine_count : ℕ → Fact
+  duties_are : List Duty → Fact
+  slices_are : List ℕ → Fact
   -- how many runs; the runs, in table order; a duty's runs by their lengths
-  runCount : ℕ → Fact
-  runsAre : List Run → Fact
+  run_count : ℕ → Fact
+  runs_are : List Run → Fact
   split : (duty : ℕ) → (lengths : List ℕ) → Fact
   -- the chains, by first row
-  chainsAre : List Chain → Fact
+  chains_are : List Chain → Fact
   -- loads in block 0, then in each later block; and over a number of blocks
-  loadsThen : (first later : ℕ) → Fact
-  loadsOver : (blocks count : ℕ) → Fact
+  loads_then : (first later : ℕ) → Fact
+  loads_over : (blocks count : ℕ) → Fact
   -- at a tick an engine has a duty, or is idle
   at_tick : (tick : ℕ) → Engine → Held → Fact
   -- an engine's rows in blocks 0, 1, 2 and so on
-  engineRows : Engine → List Row → Fact
+  engine_rows : Engine → List Row → Fact
   -- the table's bytes
-  bytesAre : List ℕ → Fact
+  bytes_are : List ℕ → Fact
   -- the whole printed plan
   prints : List ℕ → Fact
 
@@ -66,21 +66,21 @@ abbrev pub LoadsThen : Table → ℕ → ℕ → Type 0
 LoadsThen t a b = (loads t 1 ≡ a) × ((n : ℕ) → loads t (n + 2) ≡ loads t (n + 1) + b)
 
 abbrev pub Says : Outcome Table → Fact → Type 0
-Says o (refusedWith n p) = o ≡ refused n p
-Says o (blockLength n) = Gives o (λ t. t.ticks ≡ n)
-Says o (engineCount n) = Gives o (λ t. t.engines ≡ n)
-Says o (dutiesAre ds) = Gives o (λ t. t.duties ≡ ds)
-Says o (slicesAre ns) = Gives o (λ t. slices t.ticks t.duties ≡ ns)
-Says o (runCount n) = Gives o (λ t. length t.runs ≡ n)
-Says o (runsAre xs) = Gives o (λ t. t.runs ≡ xs)
+Says o (refused_with n p) = o ≡ refused n p
+Says o (block_length n) = Gives o (λ t. t.ticks ≡ n)
+Says o (engine_count n) = Gives o (λ t. t.engines ≡ n)
+Says o (duties_are ds) = Gives o (λ t. t.duties ≡ ds)
+Says o (slices_are ns) = Gives o (λ t. slices t.ticks t.duties ≡ ns)
+Says o (run_count n) = Gives o (λ t. length t.runs ≡ n)
+Says o (runs_are xs) = Gives o (λ t. t.runs ≡ xs)
 Says o (split i ns) = Gives o (λ t. pieces t.runs i ≡ ns)
-Says o (chainsAre cs) = Gives o (λ t. chains t ≡ cs)
-Says o (loadsThen a b) = Gives o (λ t. LoadsThen t a b)
-Says o (loadsOver n a) = Gives o (λ t. loads t n ≡ a)
+Says o (chains_are cs) = Gives o (λ t. chains t ≡ cs)
+Says o (loads_then a b) = Gives o (λ t. LoadsThen t a b)
+Says o (loads_over n a) = Gives o (λ t. loads t n ≡ a)
 Says o (at_tick k e h) = Gives o (λ t. walk t e k ≡ h)
-Says o (engineRows e rs) = Gives o (λ t. tab (length rs) (λ b. row_at (link t) b e) ≡ rs)
-Says o (bytesAre bs) = Gives o (λ t. bytes_of t ≡ bs)
-Says o (prints bs) = Gives o (λ t. planText t ≡ bs)
+Says o (engine_rows e rs) = Gives o (λ t. tab (length rs) (λ b. row_at (link t) b e) ≡ rs)
+Says o (bytes_are bs) = Gives o (λ t. bytes_of t ≡ bs)
+Says o (prints bs) = Gives o (λ t. plan_text t ≡ bs)
 
 pub record Case : Type 0 where
   pub engines : ℕ
@@ -88,15 +88,15 @@ pub record Case : Type 0 where
   pub facts : List Fact
 
 -- what the builder makes of a set with a wanted block length, and with none
-abbrev pub outcomeFor : ℕ → Case → Outcome Table
-outcomeFor wish c = plan wish (wantedOf c.engines c.duties)
+abbrev pub outcome_for : ℕ → Case → Outcome Table
+outcome_for wish c = plan wish (wanted_of c.engines c.duties)
 
 abbrev pub outcome : Case → Outcome Table
-outcome c = outcomeFor 0 c
+outcome c = outcome_for 0 c
 
 -- all that is stated of a set holds, with a wanted block length, and with none
 abbrev pub HoldsFor : ℕ → Case → Type 0
-HoldsFor wish c = Each (Says (outcomeFor wish c)) c.facts
+HoldsFor wish c = Each (Says (outcome_for wish c)) c.facts
 
 abbrev pub Holds : Case → Type 0
 Holds c = HoldsFor 0 c
@@ -105,8 +105,8 @@ Holds c = HoldsFor 0 c
 
 -- "the output in whole", a line for each of: plan 3 2 3; duty 0 2 3; duty 1 2 3; duty 2 2 3; run 0 0 0 2; run 0 1 2 1; run 1 1 0 1;
 -- run 1 2 1 2; chain 0 2; loads 4 3
-abbrev pub p1Text : List ℕ
-p1Text =
+abbrev pub p1_text : List ℕ
+p1_text =
     112 ∷ 108 ∷ 97 ∷ 110 ∷ 32 ∷ 51 ∷ 32 ∷ 50 ∷ 32 ∷ 51 ∷ 10
     ∷ 100 ∷ 117 ∷ 116 ∷ 121 ∷ 32 ∷ 48 ∷ 32 ∷ 50 ∷ 32 ∷ 51 ∷ 10
     ∷ 100 ∷ 117 ∷ 116 ∷ 121 ∷ 32 ∷ 49 ∷ 32 ∷ 50 ∷ 32 ∷ 51 ∷ 10
@@ -125,18 +125,18 @@ p1 =
       engines = 2;
       duties = duty 2 3 ∷ duty 2 3 ∷ duty 2 3 ∷ [];
       facts =
-          blockLength 3 ∷ engineCount 2
-          ∷ dutiesAre (duty 2 3 ∷ duty 2 3 ∷ duty 2 3 ∷ [])
-          ∷ runsAre (run 0 0 0 2 ∷ run 0 1 2 1 ∷ run 1 1 0 1 ∷ run 1 2 1 2 ∷ [])
-          ∷ chainsAre (chain 0 2 ∷ [])
-          ∷ loadsThen 4 3
-          ∷ prints p1Text
+          block_length 3 ∷ engine_count 2
+          ∷ duties_are (duty 2 3 ∷ duty 2 3 ∷ duty 2 3 ∷ [])
+          ∷ runs_are (run 0 0 0 2 ∷ run 0 1 2 1 ∷ run 1 1 0 1 ∷ run 1 2 1 2 ∷ [])
+          ∷ chains_are (chain 0 2 ∷ [])
+          ∷ loads_then 4 3
+          ∷ prints p1_text
           ∷ at_tick 5 (engine 0) (By 2) ∷ at_tick 5 (engine 1) (By 1) ∷ [];
     }
 
 -- "Case P2 in full, 30 bytes"
-abbrev p2Bytes : List ℕ
-p2Bytes =
+abbrev p2_bytes : List ℕ
+p2_bytes =
     1 ∷ 1 ∷ 0 ∷ 0 ∷ 0 ∷ 1 ∷ 1
     ∷ 2 ∷ 1 ∷ 0 ∷ 0 ∷ 0 ∷ 1 ∷ 0 ∷ 0 ∷ 0
     ∷ 3 ∷ 0 ∷ 0 ∷ 0 ∷ 0 ∷ 0 ∷ 0 ∷ 1 ∷ 0 ∷ 0 ∷ 0
@@ -144,19 +144,19 @@ p2Bytes =
 
 -- "loads 1, then 0"
 abbrev pub p2 : Case
-p2 = record { engines = 1; duties = duty 1 1 ∷ []; facts = loadsThen 1 0 ∷ bytesAre p2Bytes ∷ [] }
+p2 = record { engines = 1; duties = duty 1 1 ∷ []; facts = loads_then 1 0 ∷ bytes_are p2_bytes ∷ [] }
 
 -- "loads 2, then 2"
 abbrev pub p3 : Case
-p3 = record { engines = 1; duties = duty 1 2 ∷ duty 1 2 ∷ []; facts = loadsThen 2 2 ∷ [] }
+p3 = record { engines = 1; duties = duty 1 2 ∷ duty 1 2 ∷ []; facts = loads_then 2 2 ∷ [] }
 
 -- "7"
 abbrev pub p4 : Case
-p4 = record { engines = 1; duties = duty 1 1 ∷ duty 1 1 ∷ []; facts = refusedWith 7 0 ∷ [] }
+p4 = record { engines = 1; duties = duty 1 1 ∷ duty 1 1 ∷ []; facts = refused_with 7 0 ∷ [] }
 
 -- "6, duty 0"
 abbrev pub p5 : Case
-p5 = record { engines = 2; duties = duty 1 4 ∷ duty 2 6 ∷ []; facts = refusedWith 6 0 ∷ [] }
+p5 = record { engines = 2; duties = duty 1 4 ∷ duty 2 6 ∷ []; facts = refused_with 6 0 ∷ [] }
 
 -- "exact fit: 2 runs, chains of length 1; loads 2, then 1"
 abbrev pub p6 : Case
@@ -164,7 +164,7 @@ p6 =
     record {
       engines = 2;
       duties = duty 3 3 ∷ duty 2 3 ∷ [];
-      facts = runCount 2 ∷ chainsAre (chain 0 1 ∷ chain 1 1 ∷ []) ∷ loadsThen 2 1 ∷ [];
+      facts = run_count 2 ∷ chains_are (chain 0 1 ∷ chain 1 1 ∷ []) ∷ loads_then 2 1 ∷ [];
     }
 
 -- "duty 1 split 2 and 1; at tick 2 engine 1 is idle"
@@ -175,7 +175,7 @@ p7 =
       duties = duty 1 3 ∷ duty 3 3 ∷ duty 1 3 ∷ [];
       facts =
           split 1 (2 ∷ 1 ∷ [])
-          ∷ runsAre (run 0 0 0 1 ∷ run 0 1 1 2 ∷ run 1 1 0 1 ∷ run 1 2 1 1 ∷ [])
+          ∷ runs_are (run 0 0 0 1 ∷ run 0 1 1 2 ∷ run 1 1 0 1 ∷ run 1 2 1 1 ∷ [])
           ∷ at_tick 2 (engine 1) Idle ∷ [];
     }
 
@@ -186,10 +186,10 @@ p8 =
       engines = 4;
       duties = duty 21 30 ∷ duty 8 20 ∷ duty 5 10 ∷ duty 8 20 ∷ duty 8 40 ∷ duty 35 50 ∷ duty 12 60 ∷ duty 63 70 ∷ [];
       facts =
-          blockLength 10
-          ∷ slicesAre (7 ∷ 4 ∷ 5 ∷ 4 ∷ 2 ∷ 7 ∷ 2 ∷ 9 ∷ [])
-          ∷ chainsAre (chain 0 2 ∷ chain 2 2 ∷ [])
-          ∷ loadsThen 10 8 ∷ loadsOver 420 3_362 ∷ [];
+          block_length 10
+          ∷ slices_are (7 ∷ 4 ∷ 5 ∷ 4 ∷ 2 ∷ 7 ∷ 2 ∷ 9 ∷ [])
+          ∷ chains_are (chain 0 2 ∷ chain 2 2 ∷ [])
+          ∷ loads_then 10 8 ∷ loads_over 420 3_362 ∷ [];
     }
 
 -- "one chain of 3; engine 0 runs rows 0, 1, 2, 0"
@@ -198,12 +198,12 @@ p9 =
     record {
       engines = 3;
       duties = duty 3 4 ∷ duty 3 4 ∷ duty 3 4 ∷ duty 3 4 ∷ [];
-      facts = chainsAre (chain 0 3 ∷ []) ∷ engineRows (engine 0) (row 0 ∷ row 1 ∷ row 2 ∷ row 0 ∷ []) ∷ [];
+      facts = chains_are (chain 0 3 ∷ []) ∷ engine_rows (engine 0) (row 0 ∷ row 1 ∷ row 2 ∷ row 0 ∷ []) ∷ [];
     }
 
 -- "5, duty 0"
 abbrev pub p10 : Case
-p10 = record { engines = 1; duties = duty 3 2 ∷ duty 1 0 ∷ []; facts = refusedWith 5 0 ∷ [] }
+p10 = record { engines = 1; duties = duty 3 2 ∷ duty 1 0 ∷ []; facts = refused_with 5 0 ∷ [] }
 
 abbrev pub cases : List Case
 cases = p1 ∷ p2 ∷ p3 ∷ p4 ∷ p5 ∷ p6 ∷ p7 ∷ p8 ∷ p9 ∷ p10 ∷ []

@@ -16,38 +16,38 @@ abbrev pub duty : ℕ → ℕ → Duty
 duty c d = record { service = c; period = d }
 
 -- duty i of a list of them
-abbrev pub dutyAt : List Duty → ℕ → Duty
-dutyAt ds i = get_or ds i (duty 0 0)
+abbrev pub duty_at : List Duty → ℕ → Duty
+duty_at ds i = get_or ds i (duty 0 0)
 
 -- the services and the periods of all of them
-abbrev pub servicesOf : List Duty → List ℕ
-servicesOf ds = map (λ x. x.service) ds
+abbrev pub services_of : List Duty → List ℕ
+services_of ds = map (λ x. x.service) ds
 
-abbrev pub periodsOf : List Duty → List ℕ
-periodsOf ds = map (λ x. x.period) ds
+abbrev pub periods_of : List Duty → List ℕ
+periods_of ds = map (λ x. x.period) ds
 
 -- "Its job q has the ticks from q·D up to, not including, (q+1)·D": the first of them; there are D
-abbrev pub jobStart : Duty → ℕ → ℕ
-jobStart x q = q * x.period
+abbrev pub job_start : Duty → ℕ → ℕ
+job_start x q = q * x.period
 
 -- in which of its jobs each duty is at each tick
 abbrev pub Jobs : Type 0
 Jobs = ℕ → ℕ → ℕ
 
 -- "the job at tick t being t/D rounded down", for duties whose start lies before tick 0, duty i's by `lead i` ticks
-unfoldable pub jobsLed : (ℕ → ℕ) → List Duty → Jobs
-jobsLed lead ds i k = (lead i + k) / (dutyAt ds i).period
+unfoldable pub jobs_led : (ℕ → ℕ) → List Duty → Jobs
+jobs_led lead ds i k = (lead i + k) / (duty_at ds i).period
 
 -- for duties that all start at tick 0
-abbrev pub jobsOf : List Duty → Jobs
-jobsOf ds = jobsLed (λ i. 0) ds
+abbrev pub jobs_of : List Duty → Jobs
+jobs_of ds = jobs_led (λ i. 0) ds
 
 -- the ticks that a duty asks for in h ticks, where its period divides h: C in every D; and all of them
 abbrev pub asks : ℕ → Duty → ℕ
 asks h x = x.service * (h / x.period)
 
-abbrev pub askedIn : ℕ → List Duty → ℕ
-askedIn h ds = sum_to (length ds) (λ i. asks h (dutyAt ds i))
+abbrev pub asked_in : ℕ → List Duty → ℕ
+asked_in h ds = sum_to (length ds) (λ i. asks h (duty_at ds i))
 
 -- one duty holds both
 unfoldable pub same : Held → Held → Bool

@@ -8,16 +8,16 @@ use Rattle.paper.specs.declared.Reading.{Reading}
 use Rattle.paper.specs.declared.Reply.{Reply}
 use Rattle.paper.specs.declared.State.{State}
 use Rattle.paper.specs.Duties.{engine}
-use Rattle.paper.specs.Words.{row, rowNumbers}
+use Rattle.paper.specs.Words.{row, row_numbers}
 use Rattle.paper.specs.Outcome.{Outcome, refused, answer, and_then, leaves}
-use Rattle.paper.specs.Limits.{mostEngines, wordRoom, readingRoom, replyRoom, stateRoom, shareReadingRoom}
+use Rattle.paper.specs.Limits.{most_engines, word_room, reading_room, reply_room, state_room, share_reading_room}
 use Rattle.paper.specs.Wanted.{Wanted}
 use Rattle.paper.specs.Builder.{build}
 use Rattle.paper.specs.Rules.{judged}
-use Rattle.paper.specs.Answers.{question, start, rowTold, advanced, counted}
+use Rattle.paper.specs.Answers.{question, start, row_told, advanced, counted}
 use Rattle.paper.specs.declared.ShareReading.{ShareReading}
 use Rattle.paper.specs.Sa2.{Sharing}
-use Rattle.paper.specs.Shares.{shareList, readingOfShares, sharePlan, shareQuestion}
+use Rattle.paper.specs.Shares.{share_list, reading_of_shares, share_plan, share_question}
 
 -- ---- words and entries
 
@@ -40,69 +40,69 @@ abbrev pub needing : {A : Type 0} → ℕ → List ℕ → Outcome A → Outcome
 needing n lent rest = pick (ltb (length lent) n) (refused 255 n) rest
 
 -- a reading: block length, engines, duties, runs
-abbrev pub readingEntries : Reading → List ℕ
-readingEntries rd = rd.block_length ∷ rd.engines ∷ rd.duties ∷ rd.runs ∷ []
+abbrev pub reading_entries : Reading → List ℕ
+reading_entries rd = rd.block_length ∷ rd.engines ∷ rd.duties ∷ rd.runs ∷ []
 
 -- a reply: the row, and the duty or the mark for idle
-abbrev pub heldEntry : Held → ℕ
-heldEntry Idle = 2 ^ 64 - 1
-heldEntry (By i) = i
+abbrev pub held_entry : Held → ℕ
+held_entry Idle = 2 ^ 64 - 1
+held_entry (By i) = i
 
-abbrev pub replyEntries : Reply → List ℕ
-replyEntries r = r.row.0 ∷ heldEntry r.held ∷ []
+abbrev pub reply_entries : Reply → List ℕ
+reply_entries r = r.row.0 ∷ held_entry r.held ∷ []
 
 -- a dispatcher's state: the block, then 32 rows; and the state in such entries
-abbrev pub stateEntries : State → List ℕ
-stateEntries s = s.block ∷ rowNumbers s.rows
+abbrev pub state_entries : State → List ℕ
+state_entries s = s.block ∷ row_numbers s.rows
 
-abbrev pub stateIn : List ℕ → State
-stateIn l = record { block = get_or l 0 0; rows = tab mostEngines (λ e. row (get_or l (e + 1) 0)) }
+abbrev pub state_in : List ℕ → State
+state_in l = record { block = get_or l 0 0; rows = tab most_engines (λ e. row (get_or l (e + 1) 0)) }
 
 -- ---- the calls
 
 -- the builder: the table's bytes; its answer is their number
-abbrev pub buildCall : ℕ → Wanted → List ℕ → List ℕ → Outcome (List ℕ)
-buildCall wish x table lent = needing wordRoom lent (build wish x (length table))
+abbrev pub build_call : ℕ → Wanted → List ℕ → List ℕ → Outcome (List ℕ)
+build_call wish x table lent = needing word_room lent (build wish x (length table))
 
-abbrev pub buildEntries : Outcome (List ℕ) → Outcome (List ℕ)
-buildEntries o = entries (λ w. length w ∷ []) o
+abbrev pub build_entries : Outcome (List ℕ) → Outcome (List ℕ)
+build_entries o = entries (λ w. length w ∷ []) o
 
 -- the judge: the reading
-abbrev pub judgeCall : List ℕ → List ℕ → Outcome (List ℕ)
-judgeCall b lent = needing readingRoom lent (entries readingEntries (judged b))
+abbrev pub judge_call : List ℕ → List ℕ → Outcome (List ℕ)
+judge_call b lent = needing reading_room lent (entries reading_entries (judged b))
 
 -- the question: the reply
-abbrev pub questionCall : List ℕ → ℕ → ℕ → List ℕ → Outcome (List ℕ)
-questionCall b e k lent = needing replyRoom lent (entries replyEntries (question b (engine e) k))
+abbrev pub question_call : List ℕ → ℕ → ℕ → List ℕ → Outcome (List ℕ)
+question_call b e k lent = needing reply_room lent (entries reply_entries (question b (engine e) k))
 
 -- the dispatcher: its state
-abbrev pub startCall : List ℕ → ℕ → List ℕ → Outcome (List ℕ)
-startCall b k lent = needing stateRoom lent (entries stateEntries (start b k))
+abbrev pub start_call : List ℕ → ℕ → List ℕ → Outcome (List ℕ)
+start_call b k lent = needing state_room lent (entries state_entries (start b k))
 
-abbrev pub rowCall : List ℕ → List ℕ → ℕ → List ℕ → Outcome (List ℕ)
-rowCall b state e lent = needing stateRoom state (needing wordRoom lent (entries (λ r. r.0 ∷ []) (rowTold b (stateIn state) (engine e))))
+abbrev pub row_call : List ℕ → List ℕ → ℕ → List ℕ → Outcome (List ℕ)
+row_call b state e lent = needing state_room state (needing word_room lent (entries (λ r. r.0 ∷ []) (row_told b (state_in state) (engine e))))
 
-abbrev pub nextCall : List ℕ → List ℕ → Outcome (List ℕ)
-nextCall b state = needing stateRoom state (entries stateEntries (advanced b (stateIn state)))
+abbrev pub next_call : List ℕ → List ℕ → Outcome (List ℕ)
+next_call b state = needing state_room state (entries state_entries (advanced b (state_in state)))
 
 -- the count: the loads
-abbrev pub countCall : List ℕ → ℕ → List ℕ → Outcome (List ℕ)
-countCall b n lent = needing wordRoom lent (entries (λ x. x ∷ []) (counted b n))
+abbrev pub count_call : List ℕ → ℕ → List ℕ → Outcome (List ℕ)
+count_call b n lent = needing word_room lent (entries (λ x. x ∷ []) (counted b n))
 
 -- the builder of shares: its answer is the reading, that is entries, block length and blocks; the lent list has the allotments over its
 -- front
-abbrev pub shareReadingEntries : ShareReading → List ℕ
-shareReadingEntries rd = rd.entries ∷ rd.block_length ∷ rd.blocks ∷ []
+abbrev pub share_reading_entries : ShareReading → List ℕ
+share_reading_entries rd = rd.entries ∷ rd.block_length ∷ rd.blocks ∷ []
 
-abbrev pub sharesCall : Wanted → List ℕ → List ℕ → Outcome Sharing
-sharesCall x list lent = needing shareReadingRoom lent (sharePlan x (length list))
+abbrev pub shares_call : Wanted → List ℕ → List ℕ → Outcome Sharing
+shares_call x list lent = needing share_reading_room lent (share_plan x (length list))
 
-abbrev pub sharesEntries : Outcome Sharing → Outcome (List ℕ)
-sharesEntries o = entries (λ s. shareReadingEntries (readingOfShares s)) o
+abbrev pub shares_entries : Outcome Sharing → Outcome (List ℕ)
+shares_entries o = entries (λ s. share_reading_entries (reading_of_shares s)) o
 
-abbrev pub sharesLeft : Outcome Sharing → Outcome (List ℕ)
-sharesLeft o = entries shareList o
+abbrev pub shares_left : Outcome Sharing → Outcome (List ℕ)
+shares_left o = entries share_list o
 
 -- the question to a plan of shares: the duty or the mark for idle
-abbrev pub shareAtCall : Wanted → ℕ → ℕ → List ℕ → Outcome (List ℕ)
-shareAtCall x e k lent = needing wordRoom lent (entries (λ h. heldEntry h ∷ []) (shareQuestion x (engine e) k))
+abbrev pub share_at_call : Wanted → ℕ → ℕ → List ℕ → Outcome (List ℕ)
+share_at_call x e k lent = needing word_room lent (entries (λ h. held_entry h ∷ []) (share_question x (engine e) k))

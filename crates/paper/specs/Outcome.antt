@@ -28,19 +28,19 @@ and_then (answer a) f = f a
 abbrev pub refusal : ℕ → ℕ → Refusal
 refusal n p = record { number = n; place = p }
 
-abbrev pub refusedAs : {A : Type 0} → Refusal → Outcome A
-refusedAs x = refused x.number x.place
+abbrev pub refused_as : {A : Type 0} → Refusal → Outcome A
+refused_as x = refused x.number x.place
 
 -- a verdict, with what stands beside it
-abbrev pub verdictAs : {A : Type 0} → Verdict → A → Outcome A
-verdictAs Done a = answer a
-verdictAs (NotDone x) a = refusedAs x
+abbrev pub verdict_as : {A : Type 0} → Verdict → A → Outcome A
+verdict_as Done a = answer a
+verdict_as (NotDone x) a = refused_as x
 
 -- ---- whatever writes
 
-abbrev pub writtenAs : Written → Outcome ℕ
-writtenAs (Length n) = answer n
-writtenAs (NotWritten x) = refusedAs x
+abbrev pub written_as : Written → Outcome ℕ
+written_as (Length n) = answer n
+written_as (NotWritten x) = refused_as x
 
 -- it answers how much it writes, ..
 abbrev pub length_of : Outcome (List ℕ) → Outcome ℕ
@@ -53,7 +53,7 @@ leaves (answer w) l = over w l
 
 -- both: the answer r, and the lent buffer before and after
 pub record Writes (o : Outcome (List ℕ)) (r : Written) (before after : List ℕ) : Type 0 where
-  pub said : writtenAs r ≡ length_of o
+  pub said : written_as r ≡ length_of o
   pub left : after ≡ leaves o before
 
 -- what cannot be refused: the text is laid over the front of the buffer, and n is its length
@@ -63,17 +63,17 @@ Puts text before after n = (n ≡ length text) × (after ≡ over text before)
 -- ---- the judge
 
 -- a fault by its number and place
-abbrev pub refusalOf : Fault → Refusal
-refusalOf (Form at) = refusal 10 at
-refusalOf BlockLength = refusal 11 0
-refusalOf (Slice d) = refusal 12 d
-refusalOf (Order k) = refusal 13 k
-refusalOf (Overlap k) = refusal 14 k
-refusalOf (Joint k) = refusal 15 k
-refusalOf (Twice k) = refusal 16 k
-refusalOf (Service d) = refusal 17 d
+abbrev pub refusal_of : Fault → Refusal
+refusal_of (Form at) = refusal 10 at
+refusal_of BlockLength = refusal 11 0
+refusal_of (Slice d) = refusal 12 d
+refusal_of (Order k) = refusal 13 k
+refusal_of (Overlap k) = refusal 14 k
+refusal_of (Joint k) = refusal 15 k
+refusal_of (Twice k) = refusal 16 k
+refusal_of (Service d) = refusal 17 d
 
 -- "either the reading (T, engines, duties, number of runs) or a fault"
-abbrev pub judgedAs : Judged → Outcome Reading
-judgedAs (Accepted r) = answer r
-judgedAs (Bad f) = refusedAs (refusalOf f)
+abbrev pub judged_as : Judged → Outcome Reading
+judged_as (Accepted r) = answer r
+judged_as (Bad f) = refused_as (refusal_of f)

@@ -4,11 +4,11 @@ use Rattle.laws.specs.Choice.{pick}
 use Rattle.laws.specs.Search.{first, any}
 use Rattle.paper.specs.declared.Run.{Run}
 use Rattle.paper.specs.declared.Reading.{Reading}
-use Rattle.paper.specs.Duties.{dutyAt}
+use Rattle.paper.specs.Duties.{duty_at}
 use Rattle.paper.specs.Words.{stop, slice, undivided, Table, run_at}
 use Rattle.paper.specs.Outcome.{Outcome, refused, answer, and_then}
-use Rattle.paper.specs.Bytes.{readTable}
-use Rattle.paper.specs.Builder.{badSlice}
+use Rattle.paper.specs.Bytes.{read_table}
+use Rattle.paper.specs.Builder.{bad_slice}
 
 -- x comes before y "by (row, first unit)"
 unfoldable pub before : Run → Run → Bool
@@ -41,13 +41,13 @@ abbrev pub lowest : (Run → Run → Bool) → List Run → ℕ
 lowest bad xs = first (λ k. any (λ j. bad (run_at xs j) (run_at xs k)) k) (length xs)
 
 -- the units of all runs of duty i
-unfoldable pub unitsOf : List Run → ℕ → ℕ
-unitsOf [] i = zero
-unitsOf (x ∷ xs) i = pick (eqb x.duty i) x.length 0 + unitsOf xs i
+unfoldable pub units_of : List Run → ℕ → ℕ
+units_of [] i = zero
+units_of (x ∷ xs) i = pick (eqb x.duty i) x.length 0 + units_of xs i
 
 -- 17 "a duty's runs do not add up to its slice": the lowest duty, or how many there are
-abbrev pub badSum : Table → ℕ
-badSum t = first (λ i. not (eqb (unitsOf t.runs i) (slice t.ticks (dutyAt t.duties i)))) (length t.duties)
+abbrev pub bad_sum : Table → ℕ
+bad_sum t = first (λ i. not (eqb (units_of t.runs i) (slice t.ticks (duty_at t.duties i)))) (length t.duties)
 
 -- 13: the lowest run, or how many there are
 abbrev pub bad_order : Table → ℕ
@@ -58,27 +58,27 @@ abbrev pub fault : {A : Type 0} → (number place count : ℕ) → Outcome A →
 fault number place count rest = pick (ltb place count) (refused number place) rest
 
 -- 13 to 17, in their order
-unfoldable pub judgeRuns : Table → Outcome Table
-judgeRuns t =
+unfoldable pub judge_runs : Table → Outcome Table
+judge_runs t =
     fault 13 (bad_order t) (length t.runs)
     (fault 14 (lowest overlaps t.runs) (length t.runs)
     (fault 15 (lowest joins t.runs) (length t.runs)
     (fault 16 (lowest twice t.runs) (length t.runs)
-    (fault 17 (badSum t) (length t.duties) (answer t)))))
+    (fault 17 (bad_sum t) (length t.duties) (answer t)))))
 
 -- 11 "now means that T does not divide every period", 12 "a slice in the table not whole"
-unfoldable pub judgeDuties : Table → Outcome Table
-judgeDuties t =
+unfoldable pub judge_duties : Table → Outcome Table
+judge_duties t =
     pick (undivided t.ticks t.duties) (refused 11 0)
-    (fault 12 (badSlice t.ticks t.duties) (length t.duties) (answer t))
+    (fault 12 (bad_slice t.ticks t.duties) (length t.duties) (answer t))
 
 -- 11 to 17
-unfoldable pub judgeTable : Table → Outcome Table
-judgeTable t = and_then (judgeDuties t) judgeRuns
+unfoldable pub judge_table : Table → Outcome Table
+judge_table t = and_then (judge_duties t) judge_runs
 
 -- "A table that meets none of 10 to 17 is accepted": the table in the bytes, or the refusal
 unfoldable pub accepted : List ℕ → Outcome Table
-accepted b = and_then (readTable b) judgeTable
+accepted b = and_then (read_table b) judge_table
 
 -- "The answer is either the reading (T, engines, duties, number of runs) or a fault"
 abbrev pub reading_of : Table → Reading

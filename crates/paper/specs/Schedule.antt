@@ -1,6 +1,6 @@
 -- What each engine runs at each tick. Service and loads are those of any schedule. Nothing here knows of blocks, rows or the rotation.
 use Rattle.std.specs.Prelude.{ℕ, zero, suc, ◌+◌, Bool, not, ◌&&◌}
-use Rattle.laws.specs.Choice.{one-if}
+use Rattle.laws.specs.Choice.{one_if}
 use Rattle.laws.specs.Sum.{sum_to}
 use Rattle.paper.specs.declared.Engine.{Engine}
 use Rattle.paper.specs.declared.Held.{Held}
@@ -13,7 +13,7 @@ Schedule = Engine → ℕ → Held
 
 -- on how many of m engines duty i runs at tick k
 unfoldable pub given : ℕ → Schedule → ℕ → ℕ → ℕ
-given m s i k = sum_to m (λ e. one-if (same (s (engine e) k) (By i)))
+given m s i k = sum_to m (λ e. one_if (same (s (engine e) k) (By i)))
 
 -- the service that duty i gets in the n ticks from k on
 unfoldable pub served : ℕ → Schedule → ℕ → ℕ → ℕ → ℕ
@@ -26,5 +26,5 @@ load s e zero = busy (s e zero)
 load s e (suc k) = busy (s e (suc k)) && not (same (s e (suc k)) (s e k))
 
 -- the loads on m engines in the first n ticks
-unfoldable pub loadsIn : ℕ → Schedule → ℕ → ℕ
-loadsIn m s n = sum_to n (λ k. sum_to m (λ e. one-if (load s (engine e) k)))
+unfoldable pub loads_in : ℕ → Schedule → ℕ → ℕ
+loads_in m s n = sum_to n (λ k. sum_to m (λ e. one_if (load s (engine e) k)))

@@ -2,28 +2,28 @@
 use Rattle.std.specs.Prelude.{ℕ, zero, suc, ◌+◌, ◌-◌, ◌*◌, ◌/◌, ◌%◌, Bool, true, false, not, ◌&&◌, ◌||◌, List, [], ◌∷◌, ◌++◌, ltb, eqb, length, get_or, take, drop}
 use Rattle.laws.specs.Choice.{pick}
 use Rattle.laws.specs.Search.{first}
-use Rattle.laws.specs.Lists.{tab, flat, same-list}
+use Rattle.laws.specs.Lists.{tab, flat, same_list}
 use Rattle.paper.specs.declared.Duty.{Duty}
 use Rattle.paper.specs.declared.Run.{Run}
 use Rattle.paper.specs.declared.Chain.{Chain}
 use Rattle.paper.specs.declared.Verdict.TheVariants.{Done, Refused}
 use Rattle.paper.specs.declared.Input.{Input}
 use Rattle.paper.specs.declared.InputRead.{InputRead}
-use Rattle.paper.specs.Duties.{duty, dutyAt}
+use Rattle.paper.specs.Duties.{duty, duty_at}
 use Rattle.paper.specs.Words.{Table}
 use Rattle.paper.specs.Rotation.{chains}
 use Rattle.paper.specs.Walk.{loads}
 use Rattle.paper.specs.Outcome.{Outcome, refused, answer, and_then, refusal}
-use Rattle.paper.specs.Limits.{mostDuties, mostInput, mostDigits, defaultEngines, wordDigits}
+use Rattle.paper.specs.Limits.{most_duties, most_input, most_digits, default_engines, word_digits}
 use Rattle.paper.specs.Bytes.{within}
-use Rattle.paper.specs.Wanted.{Wanted, wanted, wantedOf}
+use Rattle.paper.specs.Wanted.{Wanted, wanted, wanted_of}
 use Rattle.paper.specs.Builder.{plan, fitted}
 use Rattle.paper.specs.Rules.{accepted}
 
 -- ---- characters, as bytes
 
-abbrev pub lineFeed : ℕ
-lineFeed = 10
+abbrev pub line_feed : ℕ
+line_feed = 10
 
 abbrev pub space : ℕ
 space = 32
@@ -31,11 +31,11 @@ space = 32
 abbrev pub dash : ℕ
 dash = 45
 
-abbrev pub zeroDigit : ℕ
-zeroDigit = 48
+abbrev pub zero_digit : ℕ
+zero_digit = 48
 
-abbrev pub nineDigit : ℕ
-nineDigit = 57
+abbrev pub nine_digit : ℕ
+nine_digit = 57
 
 -- ---- reading
 
@@ -51,139 +51,139 @@ onto x (line c ended ls) = line (x ∷ c) ended ls
 
 unfoldable pub lines_of : List ℕ → Lines
 lines_of [] = none
-lines_of (x ∷ xs) = pick (eqb x lineFeed) (line [] true (lines_of xs)) (onto x (lines_of xs))
+lines_of (x ∷ xs) = pick (eqb x line_feed) (line [] true (lines_of xs)) (onto x (lines_of xs))
 
 -- "Numbers have 1 to 9 digits and no leading zero, save `0` itself."
-unfoldable pub allDigits : List ℕ → Bool
-allDigits [] = true
-allDigits (x ∷ xs) = within zeroDigit nineDigit x && allDigits xs
+unfoldable pub all_digits : List ℕ → Bool
+all_digits [] = true
+all_digits (x ∷ xs) = within zero_digit nine_digit x && all_digits xs
 
 abbrev pub is_number : List ℕ → Bool
-is_number c = within 1 mostDigits (length c) && allDigits c && (eqb (length c) 1 || not (eqb (get_or c 0 0) zeroDigit))
+is_number c = within 1 most_digits (length c) && all_digits c && (eqb (length c) 1 || not (eqb (get_or c 0 0) zero_digit))
 
 -- the number that the digits write, after those that make up v
-unfoldable pub valueFrom : ℕ → List ℕ → ℕ
-valueFrom v [] = v
-valueFrom v (x ∷ xs) = valueFrom (v * 10 + (x - zeroDigit)) xs
+unfoldable pub value_from : ℕ → List ℕ → ℕ
+value_from v [] = v
+value_from v (x ∷ xs) = value_from (v * 10 + (x - zero_digit)) xs
 
 abbrev pub value : List ℕ → ℕ
-value c = valueFrom 0 c
+value c = value_from 0 c
 
 -- "a line with the engines (or `-`, which means 4)"
-abbrev pub isDash : List ℕ → Bool
-isDash c = same-list c (dash ∷ [])
+abbrev pub is_dash : List ℕ → Bool
+is_dash c = same_list c (dash ∷ [])
 
-abbrev pub engineLineGood : List ℕ → Bool
-engineLineGood c = isDash c || is_number c
+abbrev pub engine_line_good : List ℕ → Bool
+engine_line_good c = is_dash c || is_number c
 
-abbrev pub enginesRead : List ℕ → ℕ
-enginesRead c = pick (isDash c) defaultEngines (value c)
+abbrev pub engines_read : List ℕ → ℕ
+engines_read c = pick (is_dash c) default_engines (value c)
 
 -- "a line `service period` for each duty, one space between": what stands before the first space, and after it
-abbrev pub spaceIn : List ℕ → ℕ
-spaceIn c = first (λ k. eqb (get_or c k 0) space) (length c)
+abbrev pub space_in : List ℕ → ℕ
+space_in c = first (λ k. eqb (get_or c k 0) space) (length c)
 
-abbrev pub dutyLineGood : List ℕ → Bool
-dutyLineGood c = is_number (take (spaceIn c) c) && is_number (drop (spaceIn c + 1) c)
+abbrev pub duty_line_good : List ℕ → Bool
+duty_line_good c = is_number (take (space_in c) c) && is_number (drop (space_in c + 1) c)
 
-abbrev pub dutyRead : List ℕ → Duty
-dutyRead c = duty (value (take (spaceIn c) c)) (value (drop (spaceIn c + 1) c))
+abbrev pub duty_read : List ℕ → Duty
+duty_read c = duty (value (take (space_in c) c)) (value (drop (space_in c + 1) c))
 
 -- "Every line ends in a line feed. .. the first faulty line; .. line 66, if present, is faulty": the duties from line n on
-unfoldable pub dutiesFrom : ℕ → Lines → Outcome (List Duty)
-dutiesFrom n none = answer []
-dutiesFrom n (line c ended ls) =
-    pick (ended && dutyLineGood c && not (ltb (mostDuties + 1) n)) (and_then (dutiesFrom (n + 1) ls) (λ ds. answer (dutyRead c ∷ ds)))
+unfoldable pub duties_from : ℕ → Lines → Outcome (List Duty)
+duties_from n none = answer []
+duties_from n (line c ended ls) =
+    pick (ended && duty_line_good c && not (ltb (most_duties + 1) n)) (and_then (duties_from (n + 1) ls) (λ ds. answer (duty_read c ∷ ds)))
     (refused 9 n)
 
 -- "a missing first line is line 1"
 abbrev pub input_of : Lines → Outcome Wanted
 input_of none = refused 9 1
 input_of (line c ended ls) =
-    pick (ended && engineLineGood c) (and_then (dutiesFrom 2 ls) (λ ds. answer (wantedOf (enginesRead c) ds))) (refused 9 1)
+    pick (ended && engine_line_good c) (and_then (duties_from 2 ls) (λ ds. answer (wanted_of (engines_read c) ds))) (refused 9 1)
 
 -- "at most 4,096 bytes .. Longer input is fault 9 with place 0"
 unfoldable pub input : List ℕ → Outcome Wanted
-input b = pick (ltb mostInput (length b)) (refused 9 0) (input_of (lines_of b))
+input b = pick (ltb most_input (length b)) (refused 9 0) (input_of (lines_of b))
 
 -- what reading it hands back: two lists with room for every duty, 0 past the last; a refusal holds nothing but 0
 abbrev pub roomy : List ℕ → List ℕ
-roomy l = tab mostDuties (λ k. get_or l k 0)
+roomy l = tab most_duties (λ k. get_or l k 0)
 
-abbrev pub inputFor : Wanted → Input
-inputFor x = record { engines = x.engines; duties = length x.services; services = roomy x.services; periods = roomy x.periods }
+abbrev pub input_for : Wanted → Input
+input_for x = record { engines = x.engines; duties = length x.services; services = roomy x.services; periods = roomy x.periods }
 
-abbrev pub inputRead : Outcome Wanted → InputRead
-inputRead (refused n p) = record { verdict = Refused (refusal n p); input = inputFor (wanted 0 [] []) }
-inputRead (answer x) = record { verdict = Done; input = inputFor x }
+abbrev pub input_read : Outcome Wanted → InputRead
+input_read (refused n p) = record { verdict = Refused (refusal n p); input = input_for (wanted 0 [] []) }
+input_read (answer x) = record { verdict = Done; input = input_for x }
 
 -- ---- printing
 
 -- a number in decimal, of at most k digits
-unfoldable pub decimalIn : ℕ → ℕ → List ℕ
-decimalIn zero n = []
-decimalIn (suc k) n = pick (ltb n 10) ((zeroDigit + n) ∷ []) (decimalIn k (n / 10) ++ ((zeroDigit + n % 10) ∷ []))
+unfoldable pub decimal_in : ℕ → ℕ → List ℕ
+decimal_in zero n = []
+decimal_in (suc k) n = pick (ltb n 10) ((zero_digit + n) ∷ []) (decimal_in k (n / 10) ++ ((zero_digit + n % 10) ∷ []))
 
 -- so many digits hold every 64-bit number
 abbrev pub decimal : ℕ → List ℕ
-decimal n = decimalIn wordDigits n
+decimal n = decimal_in word_digits n
 
 -- a printed line: a word, and each number after a space; "each line ended by a line feed"
-unfoldable pub printLine : List ℕ → List ℕ → List ℕ
-printLine word numbers = word ++ flat (λ n. space ∷ decimal n) numbers ++ (lineFeed ∷ [])
+unfoldable pub print_line : List ℕ → List ℕ → List ℕ
+print_line word numbers = word ++ flat (λ n. space ∷ decimal n) numbers ++ (line_feed ∷ [])
 
 -- the words plan, duty, run, chain, loads and refused
-abbrev pub planWord : List ℕ
-planWord = 112 ∷ 108 ∷ 97 ∷ 110 ∷ []
+abbrev pub plan_word : List ℕ
+plan_word = 112 ∷ 108 ∷ 97 ∷ 110 ∷ []
 
-abbrev pub dutyWord : List ℕ
-dutyWord = 100 ∷ 117 ∷ 116 ∷ 121 ∷ []
+abbrev pub duty_word : List ℕ
+duty_word = 100 ∷ 117 ∷ 116 ∷ 121 ∷ []
 
-abbrev pub runWord : List ℕ
-runWord = 114 ∷ 117 ∷ 110 ∷ []
+abbrev pub run_word : List ℕ
+run_word = 114 ∷ 117 ∷ 110 ∷ []
 
-abbrev pub chainWord : List ℕ
-chainWord = 99 ∷ 104 ∷ 97 ∷ 105 ∷ 110 ∷ []
+abbrev pub chain_word : List ℕ
+chain_word = 99 ∷ 104 ∷ 97 ∷ 105 ∷ 110 ∷ []
 
-abbrev pub loadsWord : List ℕ
-loadsWord = 108 ∷ 111 ∷ 97 ∷ 100 ∷ 115 ∷ []
+abbrev pub loads_word : List ℕ
+loads_word = 108 ∷ 111 ∷ 97 ∷ 100 ∷ 115 ∷ []
 
-abbrev pub refusedWord : List ℕ
-refusedWord = 114 ∷ 101 ∷ 102 ∷ 117 ∷ 115 ∷ 101 ∷ 100 ∷ []
+abbrev pub refused_word : List ℕ
+refused_word = 114 ∷ 101 ∷ 102 ∷ 117 ∷ 115 ∷ 101 ∷ 100 ∷ []
 
 -- "`plan` block length, engines, duties"
-abbrev pub planLine : Table → List ℕ
-planLine t = printLine planWord (t.ticks ∷ t.engines ∷ length t.duties ∷ [])
+abbrev pub plan_line : Table → List ℕ
+plan_line t = print_line plan_word (t.ticks ∷ t.engines ∷ length t.duties ∷ [])
 
 -- "`duty` number, service, period; one each"
-abbrev pub dutyLine : List Duty → ℕ → List ℕ
-dutyLine ds i = printLine dutyWord (i ∷ (dutyAt ds i).service ∷ (dutyAt ds i).period ∷ [])
+abbrev pub duty_line : List Duty → ℕ → List ℕ
+duty_line ds i = print_line duty_word (i ∷ (duty_at ds i).service ∷ (duty_at ds i).period ∷ [])
 
 -- "`run` row, duty, first unit, length; in table order"
-abbrev pub runLine : Run → List ℕ
-runLine x = printLine runWord (x.row.0 ∷ x.duty ∷ x.first ∷ x.length ∷ [])
+abbrev pub run_line : Run → List ℕ
+run_line x = print_line run_word (x.row.0 ∷ x.duty ∷ x.first ∷ x.length ∷ [])
 
 -- "`chain` first row, length; by first row"
-abbrev pub chainLine : Chain → List ℕ
-chainLine x = printLine chainWord (x.first.0 ∷ x.length ∷ [])
+abbrev pub chain_line : Chain → List ℕ
+chain_line x = print_line chain_word (x.first.0 ∷ x.length ∷ [])
 
 -- "`loads` in block 0, in each later block"
-abbrev pub loadsLine : Table → List ℕ
-loadsLine t = printLine loadsWord (loads t 1 ∷ (loads t 2 - loads t 1) ∷ [])
+abbrev pub loads_line : Table → List ℕ
+loads_line t = print_line loads_word (loads t 1 ∷ (loads t 2 - loads t 1) ∷ [])
 
-unfoldable pub planText : Table → List ℕ
-planText t =
-    planLine t ++ flat (dutyLine t.duties) (tab (length t.duties) (λ i. i)) ++ flat runLine t.runs ++ flat chainLine (chains t)
-    ++ loadsLine t
+unfoldable pub plan_text : Table → List ℕ
+plan_text t =
+    plan_line t ++ flat (duty_line t.duties) (tab (length t.duties) (λ i. i)) ++ flat run_line t.runs ++ flat chain_line (chains t)
+    ++ loads_line t
 
 -- the text of a table in bytes, for a buffer with room for so many: 10 to 17, then 8 where the text is longer
-abbrev pub textFor : List ℕ → ℕ → Outcome (List ℕ)
-textFor b room = and_then (accepted b) (λ t. fitted room (planText t))
+abbrev pub text_for : List ℕ → ℕ → Outcome (List ℕ)
+text_for b room = and_then (accepted b) (λ t. fitted room (plan_text t))
 
 -- "It prints .. `refused NUMBER PLACE`, or" the plan
 abbrev pub printed : Outcome Table → List ℕ
-printed (refused n p) = printLine refusedWord (n ∷ p ∷ [])
-printed (answer t) = planText t
+printed (refused n p) = print_line refused_word (n ∷ p ∷ [])
+printed (answer t) = plan_text t
 
 -- the program: from what it reads to what it prints; "the program looks for 9 before all others". Its input names no block length: 0
 abbrev pub program : List ℕ → List ℕ

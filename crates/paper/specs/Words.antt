@@ -3,30 +3,30 @@
 use Rattle.std.specs.Prelude.{ℕ, ◌+◌, ◌*◌, ◌/◌, Bool, not, ◌&&◌, List, [], ◌∷◌, map, leb, ltb, eqb, length, get_or}
 use Rattle.laws.specs.Choice.{pick}
 use Rattle.laws.specs.Search.{any}
-use Rattle.laws.specs.Divisor.{divides, gcdOf}
+use Rattle.laws.specs.Divisor.{divides, gcd_of}
 use Rattle.paper.specs.declared.Row.{Row}
 use Rattle.paper.specs.declared.Duty.{Duty}
 use Rattle.paper.specs.declared.Run.{Run}
 use Rattle.paper.specs.declared.Held.{Held}
 use Rattle.paper.specs.declared.Held.TheVariants.{Idle, By}
-use Rattle.paper.specs.Duties.{dutyAt, periodsOf}
+use Rattle.paper.specs.Duties.{duty_at, periods_of}
 
 -- the row of a number
 abbrev pub row : ℕ → Row
 row n = record { 0 = n }
 
 -- the numbers of rows
-abbrev pub rowNumbers : List Row → List ℕ
-rowNumbers rs = map (λ r. r.0) rs
+abbrev pub row_numbers : List Row → List ℕ
+row_numbers rs = map (λ r. r.0) rs
 
 -- "The block length T is the greatest common divisor of all periods." Since document 02's request 6 that is the block length of a plan of
 -- shares, and of a table where no other is wanted
-unfoldable pub blockLengthOf : List Duty → ℕ
-blockLengthOf ds = gcdOf (periodsOf ds)
+unfoldable pub block_length_of : List Duty → ℕ
+block_length_of ds = gcd_of (periods_of ds)
 
 -- "T in a table is then any common divisor of all periods": whether "T does not divide every period"
 abbrev pub undivided : ℕ → List Duty → Bool
-undivided t ds = any (λ i. not (divides t (dutyAt ds i).period)) (length ds)
+undivided t ds = any (λ i. not (divides t (duty_at ds i).period)) (length ds)
 
 -- "The slice N of a duty is T·C/D."
 unfoldable pub slice : ℕ → Duty → ℕ
@@ -60,6 +60,6 @@ abbrev pub run_at : List Run → ℕ → Run
 run_at xs k = get_or xs k (run 0 0 0 0)
 
 -- who holds unit u of row r: "finding the run that holds a unit stops at the first that does"
-unfoldable pub heldIn : List Run → Row → ℕ → Held
-heldIn [] r u = Idle
-heldIn (x ∷ xs) r u = pick (covers x r u) (By x.duty) (heldIn xs r u)
+unfoldable pub held_in : List Run → Row → ℕ → Held
+held_in [] r u = Idle
+held_in (x ∷ xs) r u = pick (covers x r u) (By x.duty) (held_in xs r u)

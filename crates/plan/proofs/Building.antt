@@ -9,39 +9,39 @@ use lib.ListN.{length, take}
 use Rattle.paper.specs.declared.Refusal.{Refusal}
 use Rattle.paper.specs.declared.Written.{Written}
 use Rattle.paper.specs.declared.Written.TheVariants.{Length, Refused}
-use Rattle.paper.specs.Outcome.{answer, refusedAs, writtenAs, leaves, Writes}
-use Rattle.paper.specs.Limits.{small, mostTable}
+use Rattle.paper.specs.Outcome.{answer, refused_as, written_as, leaves, Writes}
+use Rattle.paper.specs.Limits.{small, most_table}
 use Rattle.paper.specs.Bytes.{encode}
 use Rattle.paper.specs.Wanted.{Wanted}
 use Rattle.paper.specs.Builder.{plan, build}
 use Rattle.paper.specs.Rules.{accepted}
-use Rattle.paper.proofs.Outcomes.{answered, answer-one, refused-one, then-refused, then-answer}
+use Rattle.paper.proofs.Outcomes.{answered, answer_one, refused_one, then_refused, then_answer}
 use Rattle.table_laws.proofs.Bytes.{length-encode}
-use Rattle.plan_laws.proofs.Planned.{planned-ranged, WhenBuilt, not-planned, too_short, written, built-when, built, built-accepted}
-use Rattle.line_print.proofs.Line.{puts-fits}
-use Rattle.plan_text.proofs.Fitting.{front-is}
+use Rattle.plan_laws.proofs.Planned.{planned_ranged, WhenBuilt, not_planned, too_short, written, built_when, built, built-accepted}
+use Rattle.line_print.proofs.Line.{puts_fits}
+use Rattle.plan_text.proofs.Fitting.{front_is}
 
-module _ (x : Wanted) {r : Written} {l xs : List ℕ} (w : Writes (build 0 x mostTable) r l xs) where
+module _ (x : Wanted) {r : Written} {l xs : List ℕ} (w : Writes (build 0 x most_table) r l xs) where
   -- what is built is within the buffer, and cut to the length that is told it is accepted as the plan
-  pub built-bytes : {size : ℕ} → r ≡ Length size → (size ≤ length xs) × (accepted (take size xs) ≡ plan 0 x)
-  built-bytes {size} told =
-      let whole = then-answer (build 0 x mostTable) (λ b. answer (length b)) size (sym w.said ∙ ap writtenAs told) in
+  pub built_bytes : {size : ℕ} → r ≡ Length size → (size ≤ length xs) × (accepted (take size xs) ≡ plan 0 x)
+  built_bytes {size} told =
+      let whole = then_answer (build 0 x most_table) (λ b. answer (length b)) size (sym w.said ∙ ap written_as told) in
       let bytes = whole.0 in
-      let long = sym (answer-one (length bytes) size whole.2) in
+      let long = sym (answer_one (length bytes) size whole.2) in
       let laid = w.left ∙ ap (λ o. leaves o l) whole.1 in
-      let front = front-is size bytes l xs long laid in
-      let plans = (built 0 x mostTable bytes whole.1).plans in
-      (puts-fits bytes l xs size (long, laid), ap accepted front ∙ built-accepted 0 x mostTable bytes whole.1 ∙ sym plans)
+      let front = front_is size bytes l xs long laid in
+      let plans = (built 0 x most_table bytes whole.1).plans in
+      (puts_fits bytes l xs size (long, laid), ap accepted front ∙ built-accepted 0 x most_table bytes whole.1 ∙ sym plans)
 
   -- a refusal is the plan's: every table has room
-  pub built-refused : {why : Refusal} → r ≡ Refused why → plan 0 x ≡ refusedAs why
-  built-refused {why} told =
-      go ((built-when 0 x mostTable (refusedAs why)).0
-      (then-refused (build 0 x mostTable) length why.number why.place (sym w.said ∙ ap writtenAs told)))
+  pub built_refused : {why : Refusal} → r ≡ Refused why → plan 0 x ≡ refused_as why
+  built_refused {why} told =
+      go ((built_when 0 x most_table (refused_as why)).0
+      (then_refused (build 0 x most_table) length why.number why.place (sym w.said ∙ ap written_as told)))
     where
-      go : WhenBuilt 0 x mostTable (refusedAs why) → plan 0 x ≡ refusedAs why
-      go (not-planned n p h q) = let z = refused-one why.number why.place n p q in rw (z.0, z.1) h
+      go : WhenBuilt 0 x most_table (refused_as why) → plan 0 x ≡ refused_as why
+      go (not_planned n p h q) = let z = refused_one why.number why.place n p q in rw (z.0, z.1) h
       go (too_short t h m q) =
-          let g = planned-ranged 0 x t h in
-          absurd (omega (arith, m, length-encode small t, g.duties-most, g.runs-most))
+          let g = planned_ranged 0 x t h in
+          absurd (omega (arith, m, length-encode small t, g.duties_most, g.runs_most))
       go (written t h m q) = answered (encode small t) why.number why.place (sym q)

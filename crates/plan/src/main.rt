@@ -1,11 +1,11 @@
 // The plan program: a duty set on standard input, its plan or `refused NUMBER PLACE` on standard output.
 ghost use Rattle.std.specs.Prelude.{◌≤◌, length};
-ghost use Rattle.paper.specs.Limits.{textRoom};
+ghost use Rattle.paper.specs.Limits.{text_room};
 ghost use Rattle.paper.specs.Outcome.{Puts};
 ghost use Rattle.paper.specs.Builder.{plan};
 ghost use Rattle.paper.specs.Rules.{accepted};
 ghost use Rattle.paper.specs.Text.{printed, program};
-ghost use Rattle.plan_input.specs.AsWanted.{wantedIn, HasRoom};
+ghost use Rattle.plan_input.specs.AsWanted.{wanted_in, HasRoom};
 
 use builder::build;
 use judge::{refusal_of, rule_on};
@@ -17,7 +17,7 @@ use plan_text::print_text;
 
 // The plan in table bytes, or their refusal.
 fn print_plan(out: &mut [u8], table: &[u8]) -> usize
-    requires { textRoom ≤ length out.old }
+    requires { text_room ≤ length out.old }
     ensures { Puts (printed (accepted table.now)) out.old out.new result }
 {
     let mut edges = [0u32; EDGES];
@@ -31,9 +31,9 @@ fn print_plan(out: &mut [u8], table: &[u8]) -> usize
 // The plan of what was read, in blocks of the greatest length, or the builder's refusal. Every table has room in as many bytes as the
 // longest has.
 fn print_planned(out: &mut [u8], given: Input) -> usize
-    requires text_room_in_bounds { textRoom ≤ length out.old }
+    requires text_room_in_bounds { text_room ≤ length out.old }
     requires has_room { HasRoom given }
-    ensures { Puts (printed (plan 0 (wantedIn given))) out.old out.new result }
+    ensures { Puts (printed (plan 0 (wanted_in given))) out.old out.new result }
 {
     let n = given.duties as usize;
     let services = given.services;

@@ -2,8 +2,8 @@
 // is looked for, then the line is judged and read as a part of the bytes of its own.
 ghost use Rattle.std.specs.Prelude.{◌≡◌};
 ghost use Rattle.paper.specs.Outcome.{refused};
-ghost use Rattle.paper.specs.Text.{lines_of, dutiesFrom, input, inputRead};
-ghost use Rattle.plan_input.specs.AsWanted.{withEngines};
+ghost use Rattle.paper.specs.Text.{lines_of, duties_from, input, input_read};
+ghost use Rattle.plan_input.specs.AsWanted.{with_engines};
 
 use line_read::{duty_read, engines_read, find, first_line_good, line_good};
 use paper::limits::{MOST_DUTIES, MOST_INPUT};
@@ -11,7 +11,7 @@ use paper::{Input, InputRead, Refusal, Verdict};
 
 // Refusal 9 at a line.
 fn faulty(line: usize) -> InputRead
-    ensures { result ≡ inputRead (refused 9 line) }
+    ensures { result ≡ input_read (refused 9 line) }
 {
     InputRead {
         verdict: Verdict::Refused(Refusal {
@@ -30,7 +30,7 @@ fn faulty(line: usize) -> InputRead
 // The duties of the lines after the first, which named the engines: of each line its end, then what stands before it.
 // Line i + 2 is that of duty i.
 fn read_duties(b: &[u8], engines: u32) -> InputRead
-    ensures { result ≡ inputRead (withEngines engines (dutiesFrom 2 (lines_of b.now))) }
+    ensures { result ≡ input_read (with_engines engines (duties_from 2 (lines_of b.now))) }
 {
     let mut services = [0; MOST_DUTIES];
     let mut periods = [0; MOST_DUTIES];
@@ -62,7 +62,7 @@ fn read_duties(b: &[u8], engines: u32) -> InputRead
 
 // Reads what the plan program was given: at most 4,096 bytes, the line of the engines, then the lines of the duties.
 pub fn read_input(b: &[u8]) -> InputRead
-    ensures { result ≡ inputRead (input b.now) }
+    ensures { result ≡ input_read (input b.now) }
 {
     if b.len() > MOST_INPUT {
         return faulty(0);

@@ -15,7 +15,7 @@ use Rattle.laws.proofs.Cases.{by_cases}
 use Rattle.laws.proofs.Each.{Each, Pairs, each_map}
 use Rattle.paper.specs.declared.Run.{Run}
 use Rattle.paper.specs.Words.{run, stop}
-use Rattle.paper.specs.Sa1.{lay, layOne, rowAfter, unitAfter}
+use Rattle.paper.specs.Sa1.{lay, lay_one, row_after, unit_after}
 
 -- a slice that is neither nothing nor more than a row
 abbrev pub Slice : ℕ → ℕ → Type 0
@@ -27,7 +27,7 @@ pub lay-cases :
     → ((r' u' : ℕ) → r ≤ r' → r' * t + u' ≡ r * t + u + n → u' < t → u + n ≤ t → P (run r i u n ∷ lay t ns (i + 1) r' u'))
     → ((u' : ℕ) → u' + t ≡ u + n → u' < t → t < u + n → P (run r i u (t - u) ∷ run (r + 1) i 0 u' ∷ lay t ns (i + 1) (r + 1) u'))
     → P (lay t (n ∷ ns) i r u)
-unfolding lay layOne rowAfter unitAfter
+unfolding lay lay_one row_after unit_after
 lay-cases t n ns i r u a b P fits splits =
     by_cases (leb (u + n) t)
     (λ p. by_cases (ltb (u + n) t)
@@ -39,9 +39,9 @@ lay-cases t n ns i r u a b P fits splits =
 
 -- a run of duties i to j - 1, inside its row and between the places lo and hi
 pub record Between (t i j lo hi : ℕ) (x : Run) : Type 0 where
-  pub duty-least : i ≤ x.duty
-  pub duty-below : x.duty < j
-  pub some-units : 1 ≤ x.length
+  pub duty_least : i ≤ x.duty
+  pub duty_below : x.duty < j
+  pub some_units : 1 ≤ x.length
   pub inside : stop x ≤ t
   pub start : lo ≤ x.row.0 * t + x.first
   pub finish : x.row.0 * t + stop x ≤ hi
@@ -56,13 +56,13 @@ abbrev pub Of : (t : ℕ) → List ℕ → (i r u : ℕ) → Run → Type 0
 Of t ns i r u = Between t i (i + length ns) (r * t + u) (r * t + u + sum_of ns)
 
 -- each run is inside its row, has a unit, and stands between the place where the first slice starts and that where the last stops
-pub laid-between : (t : ℕ) (ns : List ℕ) (i r u : ℕ) → u < t → Each (Slice t) ns → Each (Of t ns i r u) (lay t ns i r u)
+pub laid_between : (t : ℕ) (ns : List ℕ) (i r u : ℕ) → u < t → Each (Slice t) ns → Each (Of t ns i r u) (lay t ns i r u)
 unfolding lay sum_of
-laid-between t [] i r u a h = tt
-laid-between t (n ∷ ns) i r u a h =
+laid_between t [] i r u a h = tt
+laid_between t (n ∷ ns) i r u a h =
     lay-cases t n ns i r u a h.0.1 (Each (Of t (n ∷ ns) i r u))
-    (λ r' u' b e c d. (omega arith, rest r' u' e (laid-between t ns (i + 1) r' u' c h.1)))
-    (λ u' e c d. (omega arith, (omega arith, rest (r + 1) u' (omega arith) (laid-between t ns (i + 1) (r + 1) u' c h.1))))
+    (λ r' u' b e c d. (omega arith, rest r' u' e (laid_between t ns (i + 1) r' u' c h.1)))
+    (λ u' e c d. (omega arith, (omega arith, rest (r + 1) u' (omega arith) (laid_between t ns (i + 1) (r + 1) u' c h.1))))
   where
     rest : (r' u' : ℕ) → r' * t + u' ≡ r * t + u + n → Each (Of t ns (i + 1) r' u') (lay t ns (i + 1) r' u')
         → Each (Of t (n ∷ ns) i r u) (lay t ns (i + 1) r' u')
@@ -83,31 +83,31 @@ follows t (n ∷ ns) i r u a h =
     ahead : (r₁ u₁ l r' u' : ℕ) → u' < t → r₁ * t + u₁ + l ≤ r' * t + u' → Each (Follows t (run r₁ i u₁ l)) (lay t ns (i + 1) r' u')
     ahead r₁ u₁ l r' u' c e = each_map (Of t ns (i + 1) r' u') (Follows t (run r₁ i u₁ l))
         (λ x k. record { after = omega arith; split = λ s. omega arith }) (lay t ns (i + 1) r' u')
-        (laid-between t ns (i + 1) r' u' c h.1)
+        (laid_between t ns (i + 1) r' u' c h.1)
 
 -- at most one run more than duties for each row but the first
-pub few-runs :
+pub few_runs :
     (t m : ℕ) (ns : List ℕ) (i r u : ℕ) → u < t → Each (Slice t) ns → 1 ≤ length ns → r * t + u + sum_of ns ≤ m * t
     → length (lay t ns i r u) + r + 1 ≤ length ns + m
 unfolding sum_of lay
-few-runs t m [] i r u a h s z = absurd (not-suc-le-zero s)
-few-runs t m (n ∷ []) i r u a h s z =
+few_runs t m [] i r u a h s z = absurd (not-suc-le-zero s)
+few_runs t m (n ∷ []) i r u a h s z =
     lay-cases t n [] i r u a h.0.1 (λ xs. length xs + r + 1 ≤ 1 + m)
     (λ r' u' b e c d. let k : r < m = lt_of_mul-lt-mul_right t (omega arith) in omega arith)
     (λ u' e c d. let k : r + 1 < m = lt_of_mul-lt-mul_right t (omega arith) in omega arith)
-few-runs t m (n ∷ (n' ∷ ns)) i r u a h s z =
+few_runs t m (n ∷ (n' ∷ ns)) i r u a h s z =
     lay-cases t n (n' ∷ ns) i r u a h.0.1 (λ xs. length xs + r + 1 ≤ length (n ∷ n' ∷ ns) + m)
-    (λ r' u' b e c d. omega (arith, few-runs t m (n' ∷ ns) (i + 1) r' u' c h.1 (omega arith) (omega arith)))
-    (λ u' e c d. omega (arith, few-runs t m (n' ∷ ns) (i + 1) (r + 1) u' c h.1 (omega arith) (omega arith)))
+    (λ r' u' b e c d. omega (arith, few_runs t m (n' ∷ ns) (i + 1) r' u' c h.1 (omega arith) (omega arith)))
+    (λ u' e c d. omega (arith, few_runs t m (n' ∷ ns) (i + 1) (r + 1) u' c h.1 (omega arith) (omega arith)))
 
 -- ---- slice by slice: one, then the others from the place after it
 
 pub lay_step :
     (t n : ℕ) (ns : List ℕ) (i r u : ℕ)
-    → lay t (n ∷ ns) i r u ≡ layOne t n i r u ++ lay t ns (i + 1) (rowAfter t n r u) (unitAfter t n u)
+    → lay t (n ∷ ns) i r u ≡ lay_one t n i r u ++ lay t ns (i + 1) (row_after t n r u) (unit_after t n u)
 unfolding lay
 lay_step t n ns i r u = refl
 
-pub lay-end : (t i r u : ℕ) → lay t [] i r u ≡ []
+pub lay_end : (t i r u : ℕ) → lay t [] i r u ≡ []
 unfolding lay
-lay-end t i r u = refl
+lay_end t i r u = refl

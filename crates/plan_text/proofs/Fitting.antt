@@ -19,6 +19,6 @@ pub fitted-room : (room n : ℕ) (w : List ℕ) → n ≡ length w → n ≤ roo
 fitted-room room n w e h = rw (← e, le-ltb room n h)
 
 -- the front of a buffer with the text over it is the text
-pub front-is : (n : ℕ) (w l xs : List ℕ) → n ≡ length w → xs ≡ over w l → take n xs ≡ w
+pub front_is : (n : ℕ) (w l xs : List ℕ) → n ≡ length w → xs ≡ over w l → take n xs ≡ w
 unfolding over
-front-is n w l xs e p = ap (take n) p ∙ take_at w (drop (length w) l) n (sym e)
+front_is n w l xs e p = ap (take n) p ∙ take_at w (drop (length w) l) n (sym e)

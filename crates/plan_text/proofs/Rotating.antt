@@ -5,10 +5,10 @@ use mathlib.Core.List.{◌++◌, append_assoc}
 use Rattle.laws.specs.Lists.{flat}
 use Rattle.paper.specs.Words.{Table}
 use Rattle.paper.specs.Rotation.{chains}
-use Rattle.paper.specs.Text.{planLine, chainLine, loadsLine, planText}
-use Rattle.table_lines.specs.Parts.{dutyLines, runLines, tableLines}
-use Rattle.chain_lines.specs.Parts.{rotationLines}
+use Rattle.paper.specs.Text.{plan_line, chain_line, loads_line, plan_text}
+use Rattle.table_lines.specs.Parts.{duty_lines, run_lines, table_lines}
+use Rattle.chain_lines.specs.Parts.{rotation_lines}
 
-pub text-is : (t : Table) → tableLines t ++ rotationLines t ≡ planText t
-unfolding tableLines planText
-text-is t = sym (append_assoc (planLine t ++ dutyLines t ++ runLines t) (flat chainLine (chains t)) (loadsLine t))
+pub text_is : (t : Table) → table_lines t ++ rotation_lines t ≡ plan_text t
+unfolding table_lines plan_text
+text_is t = sym (append_assoc (plan_line t ++ duty_lines t ++ run_lines t) (flat chain_line (chains t)) (loads_line t))

@@ -1,7 +1,7 @@
 // A plan as text: a line for the plan, one for each duty, run and chain, and one for the loads.
 ghost use Rattle.std.specs.Prelude.{◌≤◌, length};
-ghost use Rattle.paper.specs.Limits.{textRoom};
-ghost use Rattle.paper.specs.Text.{planText, textFor};
+ghost use Rattle.paper.specs.Limits.{text_room};
+ghost use Rattle.paper.specs.Text.{plan_text, text_for};
 ghost use Rattle.paper.specs.Outcome.{Puts, Writes};
 ghost use Rattle.paper.specs.Builder.{fitted};
 ghost use Rattle.record_read.specs.Formed.{table_of};
@@ -16,9 +16,9 @@ use table_lines::print_table;
 
 // The text of a judged table's plan, by the edges of its rows.
 pub fn print_text(out: &mut [u8], b: &[u8], rd: Reading, edges: &[u32; EDGES]) -> usize
-    requires { Ready b.now rd edges.now × (textRoom ≤ length out.old) }
-    ensures puts { Puts (planText (table_of b.now rd)) out.old out.new result }
-    ensures upper_bound { result ≤ textRoom }
+    requires { Ready b.now rd edges.now × (text_room ≤ length out.old) }
+    ensures puts { Puts (plan_text (table_of b.now rd)) out.old out.new result }
+    ensures upper_bound { result ≤ text_room }
 {
     let at = print_table(out, b, rd);
     at + print_rotation(&mut out[at..], b, rd, edges)
@@ -27,7 +27,7 @@ pub fn print_text(out: &mut [u8], b: &[u8], rd: Reading, edges: &[u32; EDGES]) -
 // The text of a judged table, if the buffer has the room. It is made apart, since a buffer that is too short keeps its bytes.
 fn fit_text(out: &mut [u8], b: &[u8], rd: Reading, edges: &[u32; EDGES]) -> Written
     requires { Ready b.now rd edges.now }
-    ensures { Writes (fitted (length out.old) (planText (table_of b.now rd)))
+    ensures { Writes (fitted (length out.old) (plan_text (table_of b.now rd)))
         result out.old out.new }
 {
     let mut text = [0; TEXT_ROOM];
@@ -44,7 +44,7 @@ fn fit_text(out: &mut [u8], b: &[u8], rd: Reading, edges: &[u32; EDGES]) -> Writ
 
 // The text of the table in any bytes: 10 to 17 if they are refused, then 8 if the text is longer than the buffer.
 pub fn plan_text(table: &[u8], out: &mut [u8]) -> Written
-    ensures { Writes (textFor table.now (length out.old)) result out.old out.new }
+    ensures { Writes (text_for table.now (length out.old)) result out.old out.new }
 {
     let mut edges = [0u32; EDGES];
     let judged = rule_on(table, &mut edges);

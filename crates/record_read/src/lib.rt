@@ -2,9 +2,9 @@
 // little-endian. And what bytes in good form give to those who read on: where each record stands, and the duties and runs in them.
 ghost use Rattle.std.specs.Prelude.{◌≡◌, ◌+◌, ◌<◌, ◌≤◌, length};
 ghost use Rattle.laws.specs.Digits.{num_at};
-ghost use Rattle.paper.specs.Limits.{small, mostDuties, mostRuns, headLength, dutyLength, runLength};
-ghost use Rattle.paper.specs.Bytes.{dutyIn, runIn, dutyPlace, runPlace};
-ghost use Rattle.paper.specs.Duties.{dutyAt};
+ghost use Rattle.paper.specs.Limits.{small, most_duties, most_runs, head_length, duty_length, run_length};
+ghost use Rattle.paper.specs.Bytes.{duty_in, run_in, duty_place, run_place};
+ghost use Rattle.paper.specs.Duties.{duty_at};
 ghost use Rattle.paper.specs.Words.{run_at};
 ghost use Rattle.paper.specs.Statements.{DutyRanged, RunRanged};
 ghost use Rattle.record_read.specs.Formed.{IsHead, Formed, table_of};
@@ -53,7 +53,7 @@ pub struct Head {
 
 // The head.
 pub fn read_head(b: &[u8]) -> Head
-    requires { headLength small ≤ length b.now }
+    requires { head_length small ≤ length b.now }
     ensures { IsHead b.now result }
 {
     let block_length = read_four(b, 1);
@@ -68,8 +68,8 @@ pub fn read_head(b: &[u8]) -> Head
 
 // The duty in the record at an offset.
 pub fn read_duty(b: &[u8], at: usize) -> Duty
-    requires { at + dutyLength ≤ length b.now }
-    ensures { result ≡ dutyIn b.now at }
+    requires { at + duty_length ≤ length b.now }
+    ensures { result ≡ duty_in b.now at }
 {
     let service = read_four(b, at + 1);
     let period = read_four(b, at + 5);
@@ -78,8 +78,8 @@ pub fn read_duty(b: &[u8], at: usize) -> Duty
 
 // The run in the record at an offset.
 pub fn read_run(b: &[u8], at: usize) -> Run
-    requires { at + runLength small ≤ length b.now }
-    ensures { result ≡ runIn small b.now at }
+    requires { at + run_length small ≤ length b.now }
+    ensures { result ≡ run_in small b.now at }
 {
     let row = read_one(b, at + 1);
     let duty = read_one(b, at + 2);
@@ -95,16 +95,16 @@ pub fn read_run(b: &[u8], at: usize) -> Run
 
 // Where the record of duty d stands.
 pub fn duty_place(d: usize) -> usize
-    requires { d ≤ mostDuties }
-    ensures { result ≡ dutyPlace small d }
+    requires { d ≤ most_duties }
+    ensures { result ≡ duty_place small d }
 {
     HEAD_LENGTH + DUTY_LENGTH * d
 }
 
 // Where the record of run k stands, after the duties.
 pub fn run_place(duties: usize, k: usize) -> usize
-    requires { (duties ≤ mostDuties) × (k ≤ mostRuns) }
-    ensures { result ≡ runPlace small duties k }
+    requires { (duties ≤ most_duties) × (k ≤ most_runs) }
+    ensures { result ≡ run_place small duties k }
 {
     HEAD_LENGTH + DUTY_LENGTH * duties + RUN_LENGTH * k
 }
@@ -113,7 +113,7 @@ pub fn run_place(duties: usize, k: usize) -> usize
 pub fn duty_of(b: &[u8], rd: Reading, d: usize) -> Duty
     requires formed { Formed b.now rd }
     requires d_lt_duties { d < rd.duties }
-    ensures { (result ≡ dutyAt (table_of b.now rd).duties d) × DutyRanged result }
+    ensures { (result ≡ duty_at (table_of b.now rd).duties d) × DutyRanged result }
 {
     read_duty(b, duty_place(d))
 }

@@ -3,8 +3,8 @@
 ghost use Rattle.std.specs.Prelude.{◌≡◌, ◌≤◌, length};
 ghost use Rattle.laws.specs.Digits.{digits};
 ghost use Rattle.laws.specs.Lists.{over};
-ghost use Rattle.paper.specs.Limits.{small, headLength, dutyLength, runLength, endLength};
-ghost use Rattle.paper.specs.Bytes.{dutyBytes, runBytes, endBytes};
+ghost use Rattle.paper.specs.Limits.{small, head_length, duty_length, run_length, end_length};
+ghost use Rattle.paper.specs.Bytes.{duty_bytes, run_bytes, end_bytes};
 ghost use Rattle.record_write.specs.Head.{head_of};
 
 use paper::limits::{
@@ -40,7 +40,7 @@ fn put_field(out: &mut [u8], width: usize, v: u32)
 
 // The head: block length, engines, duties.
 pub fn put_head(out: &mut [u8], t: u32, engines: u32, duties: u32)
-    requires { headLength small ≤ length out.old }
+    requires { head_length small ≤ length out.old }
     ensures { out.new ≡ over (head_of t engines duties) out.old }
 {
     put_field(out, 1, HEAD_KIND as u32);
@@ -51,8 +51,8 @@ pub fn put_head(out: &mut [u8], t: u32, engines: u32, duties: u32)
 
 // A duty: service and period.
 pub fn put_duty(out: &mut [u8], x: Duty)
-    requires { dutyLength ≤ length out.old }
-    ensures { out.new ≡ over (dutyBytes x) out.old }
+    requires { duty_length ≤ length out.old }
+    ensures { out.new ≡ over (duty_bytes x) out.old }
 {
     put_field(out, 1, DUTY_KIND as u32);
     put_field(&mut out[1..], 4, x.service);
@@ -61,8 +61,8 @@ pub fn put_duty(out: &mut [u8], x: Duty)
 
 // A run: row, duty, first unit, length.
 pub fn put_run(out: &mut [u8], x: Run)
-    requires { runLength small ≤ length out.old }
-    ensures { out.new ≡ over (runBytes small x) out.old }
+    requires { run_length small ≤ length out.old }
+    ensures { out.new ≡ over (run_bytes small x) out.old }
 {
     put_field(out, 1, RUN_KIND as u32);
     put_field(&mut out[1..], 1, x.row.0);
@@ -73,8 +73,8 @@ pub fn put_run(out: &mut [u8], x: Run)
 
 // The end: the number of runs.
 pub fn put_end(out: &mut [u8], runs: u32)
-    requires { endLength ≤ length out.old }
-    ensures { out.new ≡ over (endBytes runs) out.old }
+    requires { end_length ≤ length out.old }
+    ensures { out.new ≡ over (end_bytes runs) out.old }
 {
     put_field(out, 1, END_KIND as u32);
     put_field(&mut out[1..], 2, runs);

@@ -2,7 +2,7 @@
 use Rattle.std.specs.Prelude.{ℕ, ◌+◌, ◌-◌, ◌%◌, ◌≤◌, ◌≡◌, Bool, false}
 use Rattle.paper.specs.declared.Row.{Row}
 use Rattle.paper.specs.declared.Chain.{Chain}
-use Rattle.paper.specs.Limits.{mostEngines}
+use Rattle.paper.specs.Limits.{most_engines}
 use Rattle.paper.specs.Words.{row}
 use Rattle.paper.specs.Rotation.{first_of}
 use Rattle.walk_laws.proofs.Page.{InChain}
@@ -11,14 +11,14 @@ use Rattle.rotation.specs.declared.Turned.{Turned}
 -- `last` is the last row of r's chain: at or after it, in the same chain, and not linked
 pub record IsLast (c : ℕ → Bool) (r last : ℕ) : Type 0 where
   pub after : r ≤ last
-  pub most : last ≤ mostEngines
+  pub most : last ≤ most_engines
   pub chained : first_of c last ≡ first_of c r
   pub ends : c last ≡ false
 
 -- x is the chain of row r, turned as in block b
 pub record IsTurned (c : ℕ → Bool) (b r : ℕ) (x : Turned) : Type 0 where
   pub chained : InChain c r x.chain
-  pub most : x.chain.first.0 + x.chain.length ≤ mostEngines + 1
+  pub most : x.chain.first.0 + x.chain.length ≤ most_engines + 1
   pub places : x.places ≡ b % x.chain.length
 
 -- the row so many places further round the chain than row r

@@ -1,7 +1,7 @@
 // The rotation: the chains of rows, and which row an engine runs in a block. It needs no more of a table than what holds the
 // first and the last unit of each row, as the tally tells it.
 ghost use Rattle.std.specs.Prelude.{◌≡◌, ◌+◌, ◌%◌, ◌≤◌, ◌<◌};
-ghost use Rattle.paper.specs.Limits.{mostEngines};
+ghost use Rattle.paper.specs.Limits.{most_engines};
 ghost use Rattle.paper.specs.Rotation.{first_of, row_at};
 ghost use Rattle.walk_laws.proofs.Page.{InChain};
 ghost use Rattle.row_edges.specs.Links.{link_of};
@@ -13,7 +13,7 @@ use row_edges::linked;
 
 // The first row of a row's chain: down along the links.
 fn chain_first(edges: &[u32; EDGES], row: Row) -> Row
-    requires { row.0 ≤ mostEngines }
+    requires { row.0 ≤ most_engines }
     ensures { (result.0 ≡ first_of (link_of edges.now) row.0) × (result.0 ≤ row.0) }
 {
     let mut r = row.0;
@@ -25,7 +25,7 @@ fn chain_first(edges: &[u32; EDGES], row: Row) -> Row
 
 // The last row of a row's chain: up along the links. Nothing is chained to the row past the last that there may be.
 fn chain_last(edges: &[u32; EDGES], row: Row) -> Row
-    requires { row.0 ≤ mostEngines }
+    requires { row.0 ≤ most_engines }
     ensures { IsLast (link_of edges.now) row.0 result.0 }
 {
     let mut r = row.0;
@@ -37,8 +37,8 @@ fn chain_last(edges: &[u32; EDGES], row: Row) -> Row
 
 // The chain of a row.
 pub fn chain_of(edges: &[u32; EDGES], row: Row) -> Chain
-    requires { row.0 ≤ mostEngines }
-    ensures { InChain (link_of edges.now) row.0 result × (result.first.0 + result.length ≤ mostEngines + 1) }
+    requires { row.0 ≤ most_engines }
+    ensures { InChain (link_of edges.now) row.0 result × (result.first.0 + result.length ≤ most_engines + 1) }
 {
     let first = chain_first(edges, row);
     let last = chain_last(edges, row);
@@ -55,7 +55,7 @@ pub struct Turned {
 
 // The chain of a row, in a block.
 pub fn turned_at(edges: &[u32; EDGES], row: Row, block: u64) -> Turned
-    requires { row.0 ≤ mostEngines }
+    requires { row.0 ≤ most_engines }
     ensures { IsTurned (link_of edges.now) block row.0 result }
 {
     let chain = chain_of(edges, row);
@@ -67,7 +67,7 @@ pub fn turned_at(edges: &[u32; EDGES], row: Row, block: u64) -> Turned
 // alone an engine is turned into a row.
 pub fn row_of(turned: Turned, engine: Engine) -> Row
     requires first_le_engine { (turned.chain.first.0 ≤ engine.0) × (engine.0 < turned.chain.first.0 + turned.chain.length) }
-    requires length_bound { (turned.chain.first.0 + turned.chain.length ≤ mostEngines + 1) × (turned.places < turned.chain.length) }
+    requires length_bound { (turned.chain.first.0 + turned.chain.length ≤ most_engines + 1) × (turned.places < turned.chain.length) }
     ensures { result ≡ round turned.chain engine.0 turned.places }
 {
     let first = turned.chain.first.0;
@@ -81,7 +81,7 @@ pub fn row_of(turned: Turned, engine: Engine) -> Row
 
 // The row that an engine runs in a block.
 pub fn row_in(edges: &[u32; EDGES], engine: Engine, block: u64) -> Row
-    requires { engine.0 ≤ mostEngines }
+    requires { engine.0 ≤ most_engines }
     ensures { result ≡ row_at (link_of edges.now) block engine }
 {
     row_of(turned_at(edges, Row(engine.0), block), engine)

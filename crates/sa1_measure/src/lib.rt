@@ -1,6 +1,6 @@
 // SA1's slices measured: whether they are whole, how many runs they make, and where they end, which tells whether they fit. Nothing is
 // written.
-ghost use Rattle.paper.specs.Wanted.{dutiesOf};
+ghost use Rattle.paper.specs.Wanted.{duties_of};
 ghost use Rattle.duty_lists.specs.Sliceable.{Sliceable};
 ghost use Rattle.sa1_measure.specs.Layouts.{Measured};
 
@@ -21,7 +21,7 @@ pub struct Layout {
 // Lays the slices of all duties by SA1, from unit 0 of row 0 on, up to the first that is not whole, and writes nothing.
 pub fn measure(t: u32, services: &[u32], periods: &[u32]) -> Layout
     requires { Sliceable t services.now periods.now }
-    ensures { Measured t (dutiesOf services.now periods.now) result }
+    ensures { Measured t (duties_of services.now periods.now) result }
 {
     let mut runs = 0;
     let mut place = Place {

@@ -5,5 +5,5 @@ use Rattle.laws.specs.Choice.{pick}
 use Rattle.paper.specs.Outcome.{Outcome, refused, answer}
 
 -- 7, 8 with the bytes needed, else these
-abbrev pub fittedBy : (have laid needed room : ℕ) → Outcome ℕ
-fittedBy have laid needed room = pick (ltb have laid) (refused 7 0) (pick (ltb room needed) (refused 8 needed) (answer needed))
+abbrev pub fitted_by : (have laid needed room : ℕ) → Outcome ℕ
+fitted_by have laid needed room = pick (ltb have laid) (refused 7 0) (pick (ltb room needed) (refused 8 needed) (answer needed))

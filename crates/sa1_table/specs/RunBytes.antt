@@ -4,17 +4,17 @@ use Rattle.laws.specs.Lists.{flat}
 use Rattle.paper.specs.declared.Duty.{Duty}
 use Rattle.paper.specs.declared.Run.{Run}
 use Rattle.paper.specs.Sa1.{slices}
-use Rattle.paper.specs.Limits.{small, dutyLength, runLength}
-use Rattle.paper.specs.Bytes.{dutyBytes, runBytes}
-use Rattle.sa1_runs.specs.Laying.{laidFrom, corner}
+use Rattle.paper.specs.Limits.{small, duty_length, run_length}
+use Rattle.paper.specs.Bytes.{duty_bytes, run_bytes}
+use Rattle.sa1_runs.specs.Laying.{laid_from, corner}
 
 -- runs as bytes
-abbrev pub runsBytes : List Run → List ℕ
-runsBytes xs = flat (runBytes small) xs
+abbrev pub runs_bytes : List Run → List ℕ
+runs_bytes xs = flat (run_bytes small) xs
 
 -- all duties, then SA1's runs of them; and how long they are
-abbrev pub recordsBytes : ℕ → List Duty → List ℕ
-recordsBytes t ds = flat dutyBytes ds ++ runsBytes (laidFrom t (slices t ds) 0 corner)
+abbrev pub records_bytes : ℕ → List Duty → List ℕ
+records_bytes t ds = flat duty_bytes ds ++ runs_bytes (laid_from t (slices t ds) 0 corner)
 
-abbrev pub recordsLength : ℕ → List Duty → ℕ
-recordsLength t ds = dutyLength * length ds + runLength small * length (laidFrom t (slices t ds) 0 corner)
+abbrev pub records_length : ℕ → List Duty → ℕ
+records_length t ds = duty_length * length ds + run_length small * length (laid_from t (slices t ds) 0 corner)

@@ -2,12 +2,12 @@
 ghost use Rattle.std.specs.Prelude.{◌≡◌, ◌+◌, ◌*◌, ◌≤◌, ◌<◌, length};
 ghost use Rattle.laws.specs.Lists.{over};
 ghost use Rattle.paper.specs.Sa1.{slices, sa1};
-ghost use Rattle.paper.specs.Limits.{small, mostDuties, mostTicks, runLength, tableLength};
+ghost use Rattle.paper.specs.Limits.{small, most_duties, most_ticks, run_length, table_length};
 ghost use Rattle.paper.specs.Bytes.{bytes_of};
-ghost use Rattle.paper.specs.Wanted.{dutiesOf};
+ghost use Rattle.paper.specs.Wanted.{duties_of};
 ghost use Rattle.duty_lists.specs.Sliceable.{Sliceable};
-ghost use Rattle.sa1_runs.specs.Laying.{laidAt, laidFrom, runsAt, corner};
-ghost use Rattle.sa1_table.specs.RunBytes.{runsBytes, recordsBytes, recordsLength};
+ghost use Rattle.sa1_runs.specs.Laying.{laid_at, laid_from, runs_at, corner};
+ghost use Rattle.sa1_table.specs.RunBytes.{runs_bytes, records_bytes, records_length};
 
 use duty_lists::duty_at;
 use paper::Row;
@@ -18,10 +18,10 @@ use slices::slice_of;
 
 // Writes the runs of duty i, whose slice is n, each where the last one stopped, and answers how many bytes they have.
 fn put_duty_runs(out: &mut [u8], t: u32, n: u32, i: u32, from: Place) -> usize
-    requires { (from.unit < t) × (n ≤ t) × (t ≤ mostTicks) × (from.row.0 ≤ mostDuties)
-        × (runLength small * runsAt t n from.unit ≤ length out.old) }
-    ensures { (out.new ≡ over (runsBytes (laidAt t n i from)) out.old)
-        × (result ≡ runLength small * runsAt t n from.unit) }
+    requires { (from.unit < t) × (n ≤ t) × (t ≤ most_ticks) × (from.row.0 ≤ most_duties)
+        × (run_length small * runs_at t n from.unit ≤ length out.old) }
+    ensures { (out.new ≡ over (runs_bytes (laid_at t n i from)) out.old)
+        × (result ≡ run_length small * runs_at t n from.unit) }
 {
     put_run(out, first_run(t, n, i, from));
     if runs_at(t, n, from.unit) == 1 {
@@ -35,10 +35,10 @@ fn put_duty_runs(out: &mut [u8], t: u32, n: u32, i: u32, from: Place) -> usize
 // of its kind stopped. Answers how many bytes they have.
 fn put_records(out: &mut [u8], t: u32, services: &[u32], periods: &[u32]) -> usize
     requires { Sliceable t services.now periods.now
-        × (recordsLength t (dutiesOf services.now periods.now) ≤ length out.old) }
+        × (records_length t (duties_of services.now periods.now) ≤ length out.old) }
     ensures { (out.new
-        ≡ over (recordsBytes t (dutiesOf services.now periods.now)) out.old)
-        × (result ≡ recordsLength t (dutiesOf services.now periods.now)) }
+        ≡ over (records_bytes t (duties_of services.now periods.now)) out.old)
+        × (result ≡ records_length t (duties_of services.now periods.now)) }
 {
     let mut at = DUTY_LENGTH * services.len();
     let mut place = Place {
@@ -68,10 +68,10 @@ pub fn put_table(
     runs: usize,
 )
     requires { Sliceable t services.now periods.now
-        × (runs ≡ length (laidFrom t (slices t (dutiesOf services.now periods.now)) 0 corner))
-        × (runs ≤ 2 * length services.now) × (tableLength small (length services.now) runs ≤ length out.old) }
+        × (runs ≡ length (laid_from t (slices t (duties_of services.now periods.now)) 0 corner))
+        × (runs ≤ 2 * length services.now) × (table_length small (length services.now) runs ≤ length out.old) }
     ensures { out.new
-        ≡ over (bytes_of (sa1 t engines (dutiesOf services.now periods.now))) out.old }
+        ≡ over (bytes_of (sa1 t engines (duties_of services.now periods.now))) out.old }
 {
     put_head(out, t, engines, services.len() as u32);
     let end = HEAD_LENGTH + put_records(&mut out[HEAD_LENGTH..], t, services, periods);

@@ -2,11 +2,11 @@
 // duty: whole units (`rate`, `whole`) and the part of a unit (`rest`, `part`), the need's whole raised by 1.
 ghost use Rattle.std.specs.Prelude.{◌≡◌, ◌+◌, ◌≤◌, length};
 ghost use Rattle.laws.specs.Lists.{over};
-ghost use Rattle.paper.specs.Limits.{mostEngines, mostDuties};
+ghost use Rattle.paper.specs.Limits.{most_engines, most_duties};
 ghost use Rattle.paper.specs.Sa2.{allotments};
 ghost use Rattle.duty_lists.specs.Sliceable.{Sliceable};
 ghost use Rattle.share_laws.specs.Cut.{cut_at};
-ghost use Rattle.share_block.specs.Paced.{sharingBy, Lent, Rated, Needed, Paced, freeAt, lackAt, short_at};
+ghost use Rattle.share_block.specs.Paced.{sharing_by, Lent, Rated, Needed, Paced, free_at, lack_at, short_at};
 
 use duty_lists::duty_at;
 use share_turn::{one_if, room_in_block, take_turn, wants_more};
@@ -25,9 +25,9 @@ pub fn begin(
     part: &mut [u32],
 ) -> u32
     requires { Sliceable t services.now periods.now × Lent services.now rate.old rest.old whole.old part.old }
-    ensures rated { Rated (sharingBy t engines services.now periods.now)
+    ensures rated { Rated (sharing_by t engines services.now periods.now)
         rate.new rest.new }
-    ensures paced { Paced (sharingBy t engines services.now periods.now) 0
+    ensures paced { Paced (sharing_by t engines services.now periods.now) 0
         whole.new part.new result }
 {
     let mut total = 0;
@@ -57,9 +57,9 @@ fn find_cut(
     left: u32,
 ) -> u32
     requires sliceable { Sliceable t services.now periods.now
-        × Needed (sharingBy t engines services.now periods.now) block whole.now part.now }
-    requires left_value { left ≡ freeAt (sharingBy t engines services.now periods.now) block }
-    ensures { (result ≡ cut_at (sharingBy t engines services.now periods.now) block) × (result ≤ mostDuties) }
+        × Needed (sharing_by t engines services.now periods.now) block whole.now part.now }
+    requires left_value { left ≡ free_at (sharing_by t engines services.now periods.now) block }
+    ensures { (result ≡ cut_at (sharing_by t engines services.now periods.now) block) × (result ≤ most_duties) }
 {
     let mut wanting = 0;
     let mut i = 0;
@@ -93,14 +93,14 @@ pub fn share_by_cut(
     units: &mut [u32],
 ) -> Turns
     requires sliceable { Sliceable t services.now periods.now × (length services.now ≤ length units.old) }
-    requires rated { Rated (sharingBy t engines services.now periods.now) rate.now rest.now }
-    requires needed { Needed (sharingBy t engines services.now periods.now) block whole.old part.old }
-    requires cut_value { cut ≡ cut_at (sharingBy t engines services.now periods.now) block }
-    ensures paced { Paced (sharingBy t engines services.now periods.now) (block + 1)
+    requires rated { Rated (sharing_by t engines services.now periods.now) rate.now rest.now }
+    requires needed { Needed (sharing_by t engines services.now periods.now) block whole.old part.old }
+    requires cut_value { cut ≡ cut_at (sharing_by t engines services.now periods.now) block }
+    ensures paced { Paced (sharing_by t engines services.now periods.now) (block + 1)
         whole.new part.new result.total }
-    ensures lacking_value { result.lacking ≡ lackAt (sharingBy t engines services.now periods.now) block }
+    ensures lacking_value { result.lacking ≡ lack_at (sharing_by t engines services.now periods.now) block }
     ensures units_after { units.new
-        ≡ over (allotments (sharingBy t engines services.now periods.now) block) units.old }
+        ≡ over (allotments (sharing_by t engines services.now periods.now) block) units.old }
 {
     let mut next = 0;
     let mut lacking = 0;
@@ -144,17 +144,17 @@ pub fn share_block(
     total: u32,
     units: &mut [u32],
 ) -> Shared
-    requires sliceable { Sliceable t services.now periods.now × (engines ≤ mostEngines)
+    requires sliceable { Sliceable t services.now periods.now × (engines ≤ most_engines)
         × (length services.now ≤ length units.old) }
-    requires rated { Rated (sharingBy t engines services.now periods.now) rate.now rest.now }
-    requires paced { Paced (sharingBy t engines services.now periods.now) block whole.old part.old total }
-    ensures paced_2 { Paced (sharingBy t engines services.now periods.now) (block + 1)
+    requires rated { Rated (sharing_by t engines services.now periods.now) rate.now rest.now }
+    requires paced { Paced (sharing_by t engines services.now periods.now) block whole.old part.old total }
+    ensures paced_2 { Paced (sharing_by t engines services.now periods.now) (block + 1)
         whole.new part.new result.total }
-    ensures short_value { result.short ≡ short_at (sharingBy t engines services.now periods.now) block }
+    ensures short_value { result.short ≡ short_at (sharing_by t engines services.now periods.now) block }
     ensures units_after { units.new
-        ≡ over (allotments (sharingBy t engines services.now periods.now) block) units.old }
-    ensures cut_value { (result.cut ≡ cut_at (sharingBy t engines services.now periods.now) block)
-        × (result.cut ≤ mostDuties) }
+        ≡ over (allotments (sharing_by t engines services.now periods.now) block) units.old }
+    ensures cut_value { (result.cut ≡ cut_at (sharing_by t engines services.now periods.now) block)
+        × (result.cut ≤ most_duties) }
 {
     let room = room_in_block(t, engines, services.len() as u32, total);
     let cut = find_cut(t, engines, services, periods, block, whole, part, room.free);

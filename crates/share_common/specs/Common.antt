@@ -1,7 +1,7 @@
 -- The common multiple on the way: what is known of the periods, and what the blocks come to.
 use Rattle.std.specs.Prelude.{ℕ, ◌<◌, List, length, get_or}
 use Rattle.std.specs.Int.{◌∣◌}
-use Rattle.paper.specs.Outcome.{Outcome, answer, and_then, refusedAs}
+use Rattle.paper.specs.Outcome.{Outcome, answer, and_then, refused_as}
 use Rattle.paper.specs.Sa2.{Sharing}
 use Rattle.paper.specs.Shares.{blocks, sharable}
 use Rattle.share_common.specs.declared.BlockCount.{BlockCount}
@@ -16,9 +16,9 @@ abbrev pub Divided : ℕ → List ℕ → Type 0
 Divided t ps = (i : ℕ) → i < length ps → t ∣ get_or ps i 0
 
 -- 22 or 7, else the blocks
-abbrev pub blocksOf : Sharing → Outcome ℕ
-blocksOf s = and_then (sharable s) (λ x. answer (blocks x))
+abbrev pub blocks_of : Sharing → Outcome ℕ
+blocks_of s = and_then (sharable s) (λ x. answer (blocks x))
 
-abbrev pub blocksAs : BlockCount → Outcome ℕ
-blocksAs (Blocks n) = answer n
-blocksAs (Refused x) = refusedAs x
+abbrev pub blocks_as : BlockCount → Outcome ℕ
+blocks_as (Blocks n) = answer n
+blocks_as (Refused x) = refused_as x

@@ -1,14 +1,14 @@
 // Who has a place of a block's line in a plan of shares.
 ghost use Rattle.std.specs.Prelude.{◌≡◌, ◌≤◌, length};
-ghost use Rattle.paper.specs.Limits.{mostDuties};
-ghost use Rattle.plan_laws.proofs.Line.{onLine};
+ghost use Rattle.paper.specs.Limits.{most_duties};
+ghost use Rattle.plan_laws.proofs.Line.{on_line};
 
 use paper::Held;
 
 // Who has a place of the line on which a block's units are laid, duty after duty.
 pub fn held_at(units: &[u32], place: u32) -> Held
-    requires { length units.now ≤ mostDuties }
-    ensures { result ≡ onLine units.now 0 0 place }
+    requires { length units.now ≤ most_duties }
+    ensures { result ≡ on_line units.now 0 0 place }
 {
     let mut left = place;
     let mut i = 0;

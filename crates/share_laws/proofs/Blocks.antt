@@ -6,62 +6,62 @@ use Prim.Native.Nat.{ℕ, ◌*◌, ◌<◌, ◌∣◌}
 use mathlib.Core.Path.{◌≡◌}
 use native.Mathlib.Nat.{dvd_trans, div-mul_cancel, pos_of_dvd_of_pos, dvd-mul_right}
 use native.Mathlib.Omega.{arith}
-use Rattle.paper.specs.Wanted.{Wanted, dutySet}
-use Rattle.paper.specs.Sa2.{Sharing, sharing, dutyCount}
+use Rattle.paper.specs.Wanted.{Wanted, duty_set}
+use Rattle.paper.specs.Sa2.{Sharing, sharing, duty_count}
 use Rattle.paper.specs.Shares.{common, blocks}
 use Rattle.paper.proofs.Passed.{Ranges}
-use Rattle.table_laws.proofs.Accepted.{block-divides}
+use Rattle.table_laws.proofs.Accepted.{block_divides}
 use Rattle.plan_laws.proofs.TakenWhen.{Taken}
 use Rattle.plan_laws.proofs.PlanWhen.{block_of}
-use Rattle.plan_laws.proofs.Periods.{periods-divide, multiple-least, multiple-some}
-use Rattle.plan_laws.proofs.Planned.{length-duties, block-least}
-use Rattle.share_laws.proofs.Steps.{periodOf, InBlocks}
+use Rattle.plan_laws.proofs.Periods.{periods_divide, multiple_least, multiple_some}
+use Rattle.plan_laws.proofs.Planned.{length_duties, block_least}
+use Rattle.share_laws.proofs.Steps.{period_of, InBlocks}
 
 module _ (s : Sharing) where
   -- every period divides the common multiple, ..
-  pub common-divided : (i : ℕ) → i < dutyCount s → periodOf s i ∣ common s
+  pub common_divided : (i : ℕ) → i < duty_count s → period_of s i ∣ common s
   unfolding common
-  common-divided = periods-divide s.duties
+  common_divided = periods_divide s.duties
 
   -- .. and it divides whatever they all divide
-  pub common-least : (m : ℕ) → ((i : ℕ) → i < dutyCount s → periodOf s i ∣ m) → common s ∣ m
+  pub common_least : (m : ℕ) → ((i : ℕ) → i < duty_count s → period_of s i ∣ m) → common s ∣ m
   unfolding common
-  common-least = multiple-least s.duties
+  common_least = multiple_least s.duties
 
-  pub common-some : Ranges s.duties → 0 < common s
+  pub common_some : Ranges s.duties → 0 < common s
   unfolding common
-  common-some = multiple-some s.duties
+  common_some = multiple_some s.duties
 
-  module _ (c : InBlocks s) (some : 0 < dutyCount s) where
+  module _ (c : InBlocks s) (some : 0 < duty_count s) where
     -- it is a whole number of blocks
-    pub blocks-whole : blocks s * s.ticks ≡ common s
+    pub blocks_whole : blocks s * s.ticks ≡ common s
     unfolding blocks
-    blocks-whole = div-mul_cancel s.ticks (dvd_trans s.ticks (c.ticks-divides 0 some) (common-divided 0 some))
+    blocks_whole = div-mul_cancel s.ticks (dvd_trans s.ticks (c.ticks_divides 0 some) (common_divided 0 some))
 
     -- of one block or more
-    pub blocks-some : 0 < blocks s
-    blocks-some = pos_of_dvd_of_pos (rw blocks-whole at (dvd-mul_right (blocks s) s.ticks)) (common-some c.ranges)
+    pub blocks_some : 0 < blocks s
+    blocks_some = pos_of_dvd_of_pos (rw blocks_whole at (dvd-mul_right (blocks s) s.ticks)) (common_some c.ranges)
 
     -- and of every duty's periods
-    pub blocks-divided : (i : ℕ) → i < dutyCount s → periodOf s i ∣ blocks s * s.ticks
-    blocks-divided i l = rw blocks-whole (common-divided i l)
+    pub blocks_divided : (i : ℕ) → i < duty_count s → period_of s i ∣ blocks s * s.ticks
+    blocks_divided i l = rw blocks_whole (common_divided i l)
 
 -- ---- what was taken
 
 -- the blocks of what is wanted
-abbrev pub sharingOf : Wanted → Sharing
-sharingOf x = sharing (block_of x) x.engines (dutySet x)
+abbrev pub sharing_of : Wanted → Sharing
+sharing_of x = sharing (block_of x) x.engines (duty_set x)
 
 module _ (x : Wanted) (t : Taken x) where
   -- there are duties
-  pub taken-some : 0 < dutyCount (sharingOf x)
-  taken-some = omega (arith, t.counts.duties, length-duties x.services x.periods)
+  pub taken_some : 0 < duty_count (sharing_of x)
+  taken_some = omega (arith, t.counts.duties, length_duties x.services x.periods)
 
   -- and their periods are whole numbers of blocks
-  pub taken-in-blocks : InBlocks (sharingOf x)
-  taken-in-blocks = record {
+  pub taken_in_blocks : InBlocks (sharing_of x)
+  taken_in_blocks = record {
     ranges = t.ranges;
-    ticks-some = block-least (dutySet x) taken-some t.ranges;
-    ticks-divides =
-        block-divides (dutySet x);
+    ticks_some = block_least (duty_set x) taken_some t.ranges;
+    ticks_divides =
+        block_divides (duty_set x);
   }

@@ -2,15 +2,15 @@
 use Rattle.std.specs.Prelude.{ℕ, ◌+◌, ◌*◌, Bool, ◌||◌, List, ltb, eqb}
 use Rattle.laws.specs.Search.{any}
 use Rattle.laws.specs.Sum.{sum_to}
-use Rattle.paper.specs.Sa2.{Sharing, dutyCount, whole_of, raisedUnits}
+use Rattle.paper.specs.Sa2.{Sharing, duty_count, whole_of, raised_units}
 
 -- duty i would get -1 units
 unfoldable pub lacks : Sharing → List ℕ → ℕ → Bool
-lacks s ws i = eqb (raisedUnits s ws i) 0
+lacks s ws i = eqb (raised_units s ws i) 0
 
 -- the needs' whole units are more than the engines have; each is raised by 1, so the duties are counted in
 unfoldable pub overfull : Sharing → List ℕ → Bool
-overfull s ws = ltb (s.engines * s.ticks + dutyCount s) (sum_to (dutyCount s) (whole_of s ws))
+overfull s ws = ltb (s.engines * s.ticks + duty_count s) (sum_to (duty_count s) (whole_of s ws))
 
 unfoldable pub short : Sharing → List ℕ → Bool
-short s ws = any (lacks s ws) (dutyCount s) || overfull s ws
+short s ws = any (lacks s ws) (duty_count s) || overfull s ws

@@ -4,7 +4,7 @@ ghost use Rattle.std.specs.Prelude.{◌≡◌, ◌*◌, ◌≤◌, length};
 ghost use Rattle.laws.specs.Lists.{over};
 ghost use Rattle.duty_lists.specs.Sliceable.{Sliceable};
 ghost use Rattle.share_laws.specs.Cut.{HasCuts};
-ghost use Rattle.share_block.specs.Paced.{sharingBy, Lent};
+ghost use Rattle.share_block.specs.Paced.{sharing_by, Lent};
 ghost use Rattle.share_pass.specs.Passing.{allotted};
 
 use paper::limits::MOST_DUTIES;
@@ -28,9 +28,9 @@ fn write_through(
     requires sliceable { Sliceable t services.now periods.now × (blocks ≤ length cuts.now)
         × (blocks * length services.now ≤ length list.old) }
     requires lent { Lent services.now rate.old rest.old whole.old part.old }
-    requires has_cuts { HasCuts (sharingBy t engines services.now periods.now) 0 blocks cuts.now }
+    requires has_cuts { HasCuts (sharing_by t engines services.now periods.now) 0 blocks cuts.now }
     ensures { list.new
-        ≡ over (allotted (sharingBy t engines services.now periods.now) blocks) list.old }
+        ≡ over (allotted (sharing_by t engines services.now periods.now) blocks) list.old }
 {
     begin(t, engines, services, periods, rate, rest, whole, part);
     put_blocks(
@@ -50,9 +50,9 @@ pub fn write_list(
 )
     requires sliceable { Sliceable t services.now periods.now × (blocks ≤ length cuts.now)
         × (blocks * length services.now ≤ length list.old) }
-    requires has_cuts { HasCuts (sharingBy t engines services.now periods.now) 0 blocks cuts.now }
+    requires has_cuts { HasCuts (sharing_by t engines services.now periods.now) 0 blocks cuts.now }
     ensures { list.new
-        ≡ over (allotted (sharingBy t engines services.now periods.now) blocks) list.old }
+        ≡ over (allotted (sharing_by t engines services.now periods.now) blocks) list.old }
 {
     let n = services.len();
     let mut rate = [0u32; MOST_DUTIES];

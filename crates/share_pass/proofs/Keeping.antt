@@ -7,13 +7,13 @@ use mathlib.Core.List.{List}
 use native.Mathlib.Omega.{arith}
 use lib.ListN.{length, set}
 use lib.Seq.{get_or-set_same, get_or-set_other}
-use Rattle.laws.proofs.Cases.{lt-or-le}
+use Rattle.laws.proofs.Cases.{lt_or_le}
 use Rattle.paper.specs.Sa2.{Sharing}
 use Rattle.share_laws.specs.Cut.{cut_at, HasCuts}
 use Rattle.share_pass.specs.Passing.{CutsKept}
 
-pub kept-none : (s : Sharing) (from : ℕ) (cuts : List ℕ) → CutsKept s from from cuts cuts
-kept-none s from cuts = record { has = λ b x y. absurd (omega arith); earlier = λ b h. refl }
+pub kept_none : (s : Sharing) (from : ℕ) (cuts : List ℕ) → CutsKept s from from cuts cuts
+kept_none s from cuts = record { has = λ b x y. absurd (omega arith); earlier = λ b h. refl }
 
 pub kept_more :
     {s : Sharing} {from b : ℕ} {before cuts : List ℕ} (cut : ℕ) → CutsKept s from b before cuts → from ≤ b → b < length cuts
@@ -21,18 +21,18 @@ pub kept_more :
 kept_more {s} {from} {b} {before} {cuts} cut k h l e =
     record {
       has = λ j x y.
-          lt-or-le j b
+          lt_or_le j b
           (λ z. get_or-set_other cuts b j cut 0 (λ q. omega arith) ∙ k.has j x z)
           (λ z. let q : j ≡ b = omega arith in rw q (get_or-set_same cuts b cut 0 l ∙ e));
       earlier = λ j x. get_or-set_other cuts b j cut 0 (λ q. omega arith) ∙ k.earlier j x;
     }
 
 -- up to the same block
-pub kept-to : {s : Sharing} {from b to : ℕ} {before cuts : List ℕ} → CutsKept s from b before cuts → b ≡ to → CutsKept s from to before cuts
-kept-to k e = rw (← e) k
+pub kept_to : {s : Sharing} {from b to : ℕ} {before cuts : List ℕ} → CutsKept s from b before cuts → b ≡ to → CutsKept s from to before cuts
+kept_to k e = rw (← e) k
 
 -- one pass after the other
-pub kept-both :
+pub kept_both :
     {s : Sharing} {from mid to : ℕ} {before between after : List ℕ} → CutsKept s from mid before between → CutsKept s mid to between after
     → HasCuts s from to after
-kept-both {s} {from} {mid} k g b x y = lt-or-le b mid (λ z. g.earlier b z ∙ k.has b x z) (λ z. g.has b z y)
+kept_both {s} {from} {mid} k g b x y = lt_or_le b mid (λ z. g.earlier b z ∙ k.has b x z) (λ z. g.has b z y)

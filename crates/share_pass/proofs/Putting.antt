@@ -6,9 +6,9 @@ use mathlib.Core.List.{List, ◌++◌}
 use native.Mathlib.Omega.{arith}
 use lib.ListN.{length, get_or, take, drop}
 use Rattle.laws.specs.Lists.{tab, over}
-use Rattle.laws.proofs.Lists.{length-tab, getD-tab, length-flat}
-use Rattle.laws.proofs.Listing.{Listing, listing_start, listing-room, listing-more, listing-end}
-use Rattle.paper.specs.Sa2.{Sharing, dutyCount, allotments}
+use Rattle.laws.proofs.Lists.{length-tab, get_or-tab, length-flat}
+use Rattle.laws.proofs.Listing.{Listing, listing_start, listing_room, listing_more, listing_end}
+use Rattle.paper.specs.Sa2.{Sharing, duty_count, allotments}
 use Rattle.share_block.specs.Paced.{Needed}
 use Rattle.share_pass.specs.Passing.{allotted}
 use Rattle.share_laws.proofs.OnLine.{allotments-length}
@@ -23,38 +23,38 @@ pub record Putting (s : Sharing) (blocks : ℕ) (before : List ℕ) (b at : ℕ)
   pub needed : Needed s b whole part
   pub listing : Listing (allotments s) (numbers blocks) before list at b
 
-pub putting-none :
+pub putting_none :
     (s : Sharing) (blocks : ℕ) (whole part list : List ℕ) → Needed s 0 whole part → Putting s blocks list 0 0 whole part list
-putting-none s blocks whole part list p =
+putting_none s blocks whole part list p =
     record { most = omega arith; needed = p; listing = listing_start (allotments s) (numbers blocks) list }
 
 -- the next block is its number's
-next-is : (s : Sharing) (blocks b : ℕ) → b < blocks → allotments s b ≡ allotments s (get_or (numbers blocks) b 0)
-next-is s blocks b h = ap (allotments s) (sym (getD-tab blocks (λ k. k) 0 b h))
+next_is : (s : Sharing) (blocks b : ℕ) → b < blocks → allotments s b ≡ allotments s (get_or (numbers blocks) b 0)
+next_is s blocks b h = ap (allotments s) (sym (get_or-tab blocks (λ k. k) 0 b h))
 
 module _ {s : Sharing} {blocks b at : ℕ} {before whole part list : List ℕ} where
-  pub putting-room :
-      (n : ℕ) → Putting s blocks before b at whole part list → b < blocks → n ≡ dutyCount s → blocks * n ≤ length before
+  pub putting_room :
+      (n : ℕ) → Putting s blocks before b at whole part list → b < blocks → n ≡ duty_count s → blocks * n ≤ length before
       → at + n ≤ length list
-  putting-room n p h e r =
+  putting_room n p h e r =
       let h' : b < length (numbers blocks) = rw (length-tab blocks (λ k. k)) h in
       let each = length-flat (allotments s) n (λ k. allotments-length s k ∙ sym e) (numbers blocks) in
       let all : length (allotted s blocks) ≡ n * blocks = each ∙ ap (λ (k : ℕ). n * k) (length-tab blocks (λ k. k)) in
-      omega (arith, listing-room 0 (allotments s b) (next-is s blocks b h) p.listing h', allotments-length s b, all, p.listing.long)
+      omega (arith, listing_room 0 (allotments s b) (next_is s blocks b h) p.listing h', allotments-length s b, all, p.listing.long)
 
-  pub putting-more :
-      (n : ℕ) (whole' part' ys : List ℕ) → Putting s blocks before b at whole part list → b < blocks → n ≡ dutyCount s
+  pub putting_more :
+      (n : ℕ) (whole' part' ys : List ℕ) → Putting s blocks before b at whole part list → b < blocks → n ≡ duty_count s
       → Needed s (b + 1) whole' part' → ys ≡ over (allotments s b) (take (length list - at) (drop at list))
       → length (take at list ++ (ys ++ drop (length list - at) (drop at list))) ≡ length before
       → Putting s blocks before (b + 1) (at + n) whole' part' (take at list ++ (ys ++ drop (length list - at) (drop at list)))
-  putting-more n whole' part' ys p h e q w g =
+  putting_more n whole' part' ys p h e q w g =
       let h' : b < length (numbers blocks) = rw (length-tab blocks (λ k. k)) h in
       record {
         most = omega arith;
         needed = q;
-        listing = listing-more 0 (allotments s b) ys n (next-is s blocks b h) p.listing h' (e ∙ sym (allotments-length s b)) w g;
+        listing = listing_more 0 (allotments s b) ys n (next_is s blocks b h) p.listing h' (e ∙ sym (allotments-length s b)) w g;
       }
 
-  pub putting-end :
+  pub putting_end :
       Putting s blocks before b at whole part list → blocks ≤ b → list ≡ over (allotted s blocks) before
-  putting-end p h = (listing-end p.listing (rw (length-tab blocks (λ k. k)) h)).1
+  putting_end p h = (listing_end p.listing (rw (length-tab blocks (λ k. k)) h)).1

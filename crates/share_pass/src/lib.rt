@@ -1,10 +1,10 @@
 // SA2 over many blocks: up to the first that comes short, with the cuts kept; or all of them into a list, by their cuts.
 ghost use Rattle.std.specs.Prelude.{◌≡◌, ◌*◌, ◌≤◌, length};
 ghost use Rattle.laws.specs.Lists.{over};
-ghost use Rattle.paper.specs.Limits.{mostEngines};
+ghost use Rattle.paper.specs.Limits.{most_engines};
 ghost use Rattle.duty_lists.specs.Sliceable.{Sliceable};
 ghost use Rattle.share_laws.specs.Cut.{HasCuts};
-ghost use Rattle.share_block.specs.Paced.{sharingBy, Rated, Needed, Paced};
+ghost use Rattle.share_block.specs.Paced.{sharing_by, Rated, Needed, Paced};
 ghost use Rattle.share_pass.specs.Passing.{Passed, CutsKept, allotted};
 
 use share_block::{share_block, share_by_cut};
@@ -33,13 +33,13 @@ pub fn pass_blocks(
     units: &mut [u32],
     cuts: &mut [u8],
 ) -> Reached
-    requires sliceable { Sliceable t services.now periods.now × (engines ≤ mostEngines)
+    requires sliceable { Sliceable t services.now periods.now × (engines ≤ most_engines)
         × (length services.now ≤ length units.old) × (from ≤ to) × (to ≤ length cuts.old) }
-    requires rated { Rated (sharingBy t engines services.now periods.now) rate.now rest.now }
-    requires paced { Paced (sharingBy t engines services.now periods.now) from whole.old part.old total }
-    ensures passed { Passed (sharingBy t engines services.now periods.now) from to
+    requires rated { Rated (sharing_by t engines services.now periods.now) rate.now rest.now }
+    requires paced { Paced (sharing_by t engines services.now periods.now) from whole.old part.old total }
+    ensures passed { Passed (sharing_by t engines services.now periods.now) from to
         units.old result.block result.total whole.new part.new units.new }
-    ensures cuts_kept { CutsKept (sharingBy t engines services.now periods.now) from
+    ensures cuts_kept { CutsKept (sharing_by t engines services.now periods.now) from
         result.block cuts.old cuts.new }
 {
     let mut sum = total;
@@ -81,11 +81,11 @@ pub fn put_blocks(
 )
     requires sliceable { Sliceable t services.now periods.now × (blocks ≤ length cuts.now)
         × (blocks * length services.now ≤ length list.old) }
-    requires rated { Rated (sharingBy t engines services.now periods.now) rate.now rest.now }
-    requires needed { Needed (sharingBy t engines services.now periods.now) 0 whole.old part.old }
-    requires has_cuts { HasCuts (sharingBy t engines services.now periods.now) 0 blocks cuts.now }
+    requires rated { Rated (sharing_by t engines services.now periods.now) rate.now rest.now }
+    requires needed { Needed (sharing_by t engines services.now periods.now) 0 whole.old part.old }
+    requires has_cuts { HasCuts (sharing_by t engines services.now periods.now) 0 blocks cuts.now }
     ensures { list.new
-        ≡ over (allotted (sharingBy t engines services.now periods.now) blocks) list.old }
+        ≡ over (allotted (sharing_by t engines services.now periods.now) blocks) list.old }
 {
     let mut at = 0;
     let mut b = 0;

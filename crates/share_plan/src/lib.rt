@@ -2,9 +2,9 @@
 // are known.
 ghost use Rattle.std.specs.Prelude.{◌≡◌, length};
 ghost use Rattle.paper.specs.Wanted.{wanted};
-ghost use Rattle.paper.specs.Shares.{GivesShares, sharePlan, shareAnswerAs, shareQuestion};
-ghost use Rattle.share_block.specs.Paced.{sharingBy};
-ghost use Rattle.share_plan.specs.AfterCount.{KnownBlocks, Measures, list_from, heldFrom};
+ghost use Rattle.paper.specs.Shares.{GivesShares, share_plan, share_answer_as, share_question};
+ghost use Rattle.share_block.specs.Paced.{sharing_by};
+ghost use Rattle.share_plan.specs.AfterCount.{KnownBlocks, Measures, list_from, held_from};
 
 use duty_lists::take_duties;
 use paper::limits::{MOST_DUTIES, MOST_SHARE_BLOCKS};
@@ -59,7 +59,7 @@ fn list_from(
 ) -> SharesTold
     requires { KnownBlocks t engines services.now periods.now blocks }
     ensures { GivesShares
-        (list_from (length list.old) (sharingBy t engines services.now periods.now)) result
+        (list_from (length list.old) (sharing_by t engines services.now periods.now)) result
         list.old list.new }
 {
     let needed = blocks as usize * services.len();
@@ -91,7 +91,7 @@ fn list_from(
 // Builds a plan of shares from services and periods: each duty's units in each block, block by block, into the lent list. The answer tells
 // the entries written, the block length and the blocks; entries past them stay. A refusal writes nothing.
 pub fn build_shares(engines: u32, services: &[u32], periods: &[u32], list: &mut [u32]) -> SharesTold
-    ensures { GivesShares (sharePlan (wanted engines services.now periods.now) (length list.old)) result
+    ensures { GivesShares (share_plan (wanted engines services.now periods.now) (length list.old)) result
         list.old list.new }
 {
     let measured = measure_blocks(engines, services, periods);
@@ -120,7 +120,7 @@ fn held_from(
     tick: u64,
 ) -> ShareAnswer
     requires { KnownBlocks t engines services.now periods.now blocks }
-    ensures { shareAnswerAs result ≡ heldFrom engine tick (sharingBy t engines services.now periods.now) }
+    ensures { share_answer_as result ≡ held_from engine tick (sharing_by t engines services.now periods.now) }
 {
     let block = (tick / t as u64 % blocks as u64) as u32;
     let mut units = [0u32; MOST_DUTIES];
@@ -152,7 +152,7 @@ pub fn share_question(
     engine: Engine,
     tick: u64,
 ) -> ShareAnswer
-    ensures { shareAnswerAs result ≡ shareQuestion (wanted engines services.now periods.now) engine tick }
+    ensures { share_answer_as result ≡ share_question (wanted engines services.now periods.now) engine tick }
 {
     let measured = measure_blocks(engines, services, periods);
     match measured {

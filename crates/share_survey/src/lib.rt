@@ -1,8 +1,8 @@
 // A plan of shares looked through, before anything is written. The four lists of shares and needs stand here, one entry for each duty.
 ghost use Rattle.std.specs.Prelude.{◌≡◌, ◌≤◌, ◌<◌, length};
-ghost use Rattle.paper.specs.Limits.{mostEngines};
+ghost use Rattle.paper.specs.Limits.{most_engines};
 ghost use Rattle.duty_lists.specs.Sliceable.{Sliceable};
-ghost use Rattle.share_block.specs.Paced.{sharingBy, Lent, Rated, Paced};
+ghost use Rattle.share_block.specs.Paced.{sharing_by, Lent, Rated, Paced};
 ghost use Rattle.share_survey.specs.Looking.{Looked};
 
 use paper::limits::MOST_DUTIES;
@@ -27,11 +27,11 @@ fn look_on(
     spare: &mut [u32],
     cuts: &mut [u8],
 ) -> u32
-    requires sliceable { Sliceable t services.now periods.now × (engines ≤ mostEngines) × (keep < blocks) × (blocks ≤ length cuts.old) }
+    requires sliceable { Sliceable t services.now periods.now × (engines ≤ most_engines) × (keep < blocks) × (blocks ≤ length cuts.old) }
     requires services_in_bounds { (length services.now ≤ length units.old) × (length services.now ≤ length spare.old) }
-    requires rated { Rated (sharingBy t engines services.now periods.now) rate.now rest.now }
-    requires paced { Paced (sharingBy t engines services.now periods.now) 0 whole.old part.old total }
-    ensures { Looked (sharingBy t engines services.now periods.now) blocks keep
+    requires rated { Rated (sharing_by t engines services.now periods.now) rate.now rest.now }
+    requires paced { Paced (sharing_by t engines services.now periods.now) 0 whole.old part.old total }
+    ensures { Looked (sharing_by t engines services.now periods.now) blocks keep
         units.old result units.new cuts.new }
 {
     let kept = pass_blocks(
@@ -86,10 +86,10 @@ fn look_through(
     spare: &mut [u32],
     cuts: &mut [u8],
 ) -> u32
-    requires sliceable { Sliceable t services.now periods.now × (engines ≤ mostEngines) × (keep < blocks) × (blocks ≤ length cuts.old) }
+    requires sliceable { Sliceable t services.now periods.now × (engines ≤ most_engines) × (keep < blocks) × (blocks ≤ length cuts.old) }
     requires lent { Lent services.now rate.old rest.old whole.old part.old }
     requires services_in_bounds { (length services.now ≤ length units.old) × (length services.now ≤ length spare.old) }
-    ensures { Looked (sharingBy t engines services.now periods.now) blocks keep
+    ensures { Looked (sharing_by t engines services.now periods.now) blocks keep
         units.old result units.new cuts.new }
 {
     let total = begin(t, engines, services, periods, rate, rest, whole, part);
@@ -110,9 +110,9 @@ pub fn survey(
     units: &mut [u32],
     cuts: &mut [u8],
 ) -> u32
-    requires { Sliceable t services.now periods.now × (engines ≤ mostEngines) × (keep < blocks)
+    requires { Sliceable t services.now periods.now × (engines ≤ most_engines) × (keep < blocks)
         × (length services.now ≤ length units.old) × (blocks ≤ length cuts.old) }
-    ensures { Looked (sharingBy t engines services.now periods.now) blocks keep
+    ensures { Looked (sharing_by t engines services.now periods.now) blocks keep
         units.old result units.new cuts.new }
 {
     let n = services.len();

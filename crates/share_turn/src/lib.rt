@@ -2,9 +2,9 @@
 // part of one in D-ths, for a duty of period D. So a share is N and F, and a need n and f, n raised by 1; block after block there is no
 // division.
 ghost use Rattle.std.specs.Prelude.{◌≡◌, ◌+◌, ◌-◌, ◌*◌, ◌/◌, ◌%◌, ◌≤◌, ◌<◌, leb, ltb, eqb};
-ghost use Rattle.laws.specs.Choice.{one-if};
-ghost use Rattle.paper.specs.Limits.{mostEngines, mostDuties, mostTicks};
-ghost use Rattle.share_turn.specs.Taking.{wantsBy, chosenBy, nextBy};
+ghost use Rattle.laws.specs.Choice.{one_if};
+ghost use Rattle.paper.specs.Limits.{most_engines, most_duties, most_ticks};
+ghost use Rattle.share_turn.specs.Taking.{wants_by, chosen_by, next_by};
 
 // Step 1: the free units of a block, and whether the needs' whole units are more than the engines have.
 #[derive(Drop)]
@@ -15,7 +15,7 @@ pub struct Room {
 
 // By the sum of the needs' whole units. Each of them is raised by 1, so the duties are counted in.
 pub fn room_in_block(t: u32, engines: u32, duties: u32, total: u32) -> Room
-    requires { (t ≤ mostTicks) × (engines ≤ mostEngines) × (duties ≤ mostDuties) }
+    requires { (t ≤ most_ticks) × (engines ≤ most_engines) × (duties ≤ most_duties) }
     ensures free_value { result.free ≡ engines * t + duties - total }
     ensures overfull_value { result.overfull ≡ ltb (engines * t + duties) total }
 {
@@ -34,15 +34,15 @@ pub fn room_in_block(t: u32, engines: u32, duties: u32, total: u32) -> Room
 
 // 1 or 0.
 pub fn one_if(b: bool) -> u32
-    ensures { (result ≡ one-if b) × (result ≤ 1) }
+    ensures { (result ≡ one_if b) × (result ≤ 1) }
 {
     if b { 1 } else { 0 }
 }
 
 // Step 2: whether a duty wants one of the free units, by its need.
 pub fn wants_more(t: u32, whole: u32, part: u32) -> bool
-    requires { t ≤ mostTicks }
-    ensures { result ≡ wantsBy t whole part }
+    requires { t ≤ most_ticks }
+    ensures { result ≡ wants_by t whole part }
 {
     (0 < part) & (whole < t + 1)
 }
@@ -78,11 +78,11 @@ pub fn take_turn(
     place: u32,
     cut: u32,
 ) -> Turn
-    requires { (t ≤ mostTicks) × (period ≤ mostTicks) × (rate ≤ t) × (rest < period) × (whole ≤ t + 1) × (part < period) }
-    ensures units_value { result.units ≡ whole + one-if (chosenBy t whole part place cut) - 1 }
-    ensures whole_value { (result.whole ≡ nextBy period rate rest part (chosenBy t whole part place cut) / period) × (result.whole ≤ t + 2) }
-    ensures part_value { result.part ≡ nextBy period rate rest part (chosenBy t whole part place cut) % period }
-    ensures lacking_value { (result.lacking ≡ one-if (eqb (whole + one-if (chosenBy t whole part place cut)) 0)) × (result.lacking ≤ 1) }
+    requires { (t ≤ most_ticks) × (period ≤ most_ticks) × (rate ≤ t) × (rest < period) × (whole ≤ t + 1) × (part < period) }
+    ensures units_value { result.units ≡ whole + one_if (chosen_by t whole part place cut) - 1 }
+    ensures whole_value { (result.whole ≡ next_by period rate rest part (chosen_by t whole part place cut) / period) × (result.whole ≤ t + 2) }
+    ensures part_value { result.part ≡ next_by period rate rest part (chosen_by t whole part place cut) % period }
+    ensures lacking_value { (result.lacking ≡ one_if (eqb (whole + one_if (chosen_by t whole part place cut)) 0)) × (result.lacking ≤ 1) }
 {
     let wants = wants_more(t, whole, part);
     let took = one_if(wants & (place < cut));

@@ -1,13 +1,14 @@
 // Arithmetic of a plan: a number's and a duty's ranges, and why a duty is out of range; the greatest common divisor, and the block length
 // that is meant; a duty's share.
+#![tactic(auto)]
 ghost use Rattle.std.specs.Prelude.{◌≡◌, List, ◌*◌, ◌/◌, ◌%◌, ◌≤◌, ◌<◌, eqb};
-ghost use Rattle.laws.specs.Divisor.{gcd, gcdOf};
+ghost use Rattle.laws.specs.Divisor.{gcd, gcd_of};
 ghost use Rattle.laws.specs.Choice.{pick};
 ghost use Rattle.paper.specs.declared.Duty.{Duty};
 ghost use Rattle.paper.specs.Words.{slice, whole};
-ghost use Rattle.paper.specs.Outcome.{refused, refusedAs};
-ghost use Rattle.paper.specs.Limits.{mostTicks};
-ghost use Rattle.paper.specs.Bytes.{within, dutyRanged};
+ghost use Rattle.paper.specs.Outcome.{refused, refused_as};
+ghost use Rattle.paper.specs.Limits.{most_ticks};
+ghost use Rattle.paper.specs.Bytes.{within, duty_ranged};
 
 use paper::limits::MOST_TICKS;
 use paper::{Duty, Refusal};
@@ -21,21 +22,21 @@ pub fn is_within(low: usize, high: usize, v: usize) -> bool
 
 // Whether a period is in range.
 pub fn period_in_range(period: u32) -> bool
-    ensures { result ≡ within 1 mostTicks period }
+    ensures { result ≡ within 1 most_ticks period }
 {
     (1 <= period) & (period <= MOST_TICKS)
 }
 
 // Whether a duty is in range: its period, and a service from 1 to it.
 pub fn duty_in_range(x: Duty) -> bool
-    ensures { result ≡ dutyRanged x }
+    ensures { result ≡ duty_ranged x }
 {
     ((1 <= x.period) & (x.period <= MOST_TICKS)) & ((1 <= x.service) & (x.service <= x.period))
 }
 
 // Why duty d is out of range: 5 where its period is in range, and so its service is not; else 4.
 pub fn range_fault(period: u32, d: usize) -> Refusal
-    ensures { refusedAs {A = List Duty} result ≡ pick (within 1 mostTicks period) (refused 5 d) (refused 4 d) }
+    ensures { refused_as {A = List Duty} result ≡ pick (within 1 most_ticks period) (refused 5 d) (refused 4 d) }
 {
     if period_in_range(period) {
         return Refusal {
@@ -65,7 +66,7 @@ pub fn gcd_of(a: u32, b: u32) -> u32
 
 // The greatest block length for a list of periods: their greatest common divisor.
 pub fn gcd_of_all(periods: &[u32]) -> u32
-    ensures { result ≡ gcdOf periods.now }
+    ensures { result ≡ gcd_of periods.now }
 {
     let mut g: u32 = 0;
     let mut i = 0;
@@ -88,15 +89,15 @@ pub fn length_meant(wish: u32, greatest: u32) -> u32
 
 // T·C: it has 40 bits at the most.
 fn scaled(t: u32, service: u32) -> u64
-    requires { (t ≤ mostTicks) × (service ≤ mostTicks) }
-    ensures { (result ≡ t * service) × (result ≤ mostTicks * mostTicks) }
+    requires { (t ≤ most_ticks) × (service ≤ most_ticks) }
+    ensures { (result ≡ t * service) × (result ≤ most_ticks * most_ticks) }
 {
     t as u64 * service as u64
 }
 
 // Whether a duty's slice T·C/D is whole.
 pub fn is_whole(t: u32, x: Duty) -> bool
-    requires { (t ≤ mostTicks) × (x.service ≤ mostTicks) × (0 < x.period) }
+    requires { (t ≤ most_ticks) × (x.service ≤ most_ticks) × (0 < x.period) }
     ensures { result ≡ whole t x }
 {
     scaled(t, x.service) % x.period as u64 == 0
@@ -111,7 +112,7 @@ pub struct Share {
 
 // The whole units are at most T, since C is at most D.
 pub fn share_of(t: u32, x: Duty) -> Share
-    requires { (t ≤ mostTicks) × (x.service ≤ mostTicks) × (x.service ≤ x.period) × (0 < x.period) }
+    requires { (t ≤ most_ticks) × (x.service ≤ most_ticks) × (x.service ≤ x.period) × (0 < x.period) }
     ensures { (result.units ≡ slice t x) × (result.rest ≡ t * x.service % x.period) × (result.units ≤ t) }
 {
     let all = scaled(t, x.service);
@@ -123,7 +124,7 @@ pub fn share_of(t: u32, x: Duty) -> Share
 
 // A duty's slice, where its share is whole.
 pub fn slice_of(t: u32, x: Duty) -> u32
-    requires { (t ≤ mostTicks) × (x.service ≤ mostTicks) × (x.service ≤ x.period) × (0 < x.period) }
+    requires { (t ≤ most_ticks) × (x.service ≤ most_ticks) × (x.service ≤ x.period) × (0 < x.period) }
     ensures { (result ≡ slice t x) × (result ≤ t) }
 {
     share_of(t, x).units

@@ -5,6 +5,6 @@ use Rattle.table_form.specs.declared.Form.{Form}
 use Rattle.table_form.specs.declared.Form.TheVariants.{Good, Fault}
 
 -- the reader's answer: a reading, or fault 10 at its offset
-abbrev pub formAs : Form → Outcome Reading
-formAs (Good rd) = answer rd
-formAs (Fault at) = refused 10 at
+abbrev pub form_as : Form → Outcome Reading
+form_as (Good rd) = answer rd
+form_as (Fault at) = refused 10 at

@@ -2,11 +2,11 @@
 // searches: the first bad duty record, and the first record that is no good run.
 ghost use Rattle.std.specs.Prelude.{◌≡◌, ◌≤◌};
 ghost use Rattle.paper.specs.Outcome.{answer, and_then};
-ghost use Rattle.paper.specs.Limits.{small, mostDuties, mostRuns};
-ghost use Rattle.paper.specs.Bytes.{badDuty, goodRuns, afterRuns, readTable};
+ghost use Rattle.paper.specs.Limits.{small, most_duties, most_runs};
+ghost use Rattle.paper.specs.Bytes.{bad_duty, good_runs, after_runs, read_table};
 ghost use Rattle.paper.specs.Rules.{reading_of};
 ghost use Rattle.record_read.specs.Formed.{IsHead};
-ghost use Rattle.table_form.specs.FormAs.{formAs};
+ghost use Rattle.table_form.specs.FormAs.{form_as};
 
 use paper::Reading;
 use paper::limits::{END_LENGTH, MOST_RUNS};
@@ -22,8 +22,8 @@ pub enum Form {
 
 // The first of n duty records that is no good, or n.
 fn bad_duty(b: &[u8], n: usize) -> usize
-    requires { n ≤ mostDuties }
-    ensures { result ≡ badDuty small b.now n }
+    requires { n ≤ most_duties }
+    ensures { result ≡ bad_duty small b.now n }
 {
     let mut d = 0;
     while d < n {
@@ -37,8 +37,8 @@ fn bad_duty(b: &[u8], n: usize) -> usize
 
 // How many good runs stand after the duties, at most as many as a table may have.
 fn good_runs(b: &[u8], head: Head) -> usize
-    requires { IsHead b.now head × (head.duties ≤ mostDuties) }
-    ensures { (result ≡ goodRuns small b.now head.duties) × (result ≤ mostRuns) }
+    requires { IsHead b.now head × (head.duties ≤ most_duties) }
+    ensures { (result ≡ good_runs small b.now head.duties) × (result ≤ most_runs) }
 {
     let mut k = 0;
     while k < MOST_RUNS {
@@ -52,9 +52,9 @@ fn good_runs(b: &[u8], head: Head) -> usize
 
 // The form of bytes whose head and duty records are good.
 fn form_of_runs(b: &[u8], head: Head) -> Form
-    requires { IsHead b.now head × (head.duties ≤ mostDuties) }
-    ensures { formAs result
-        ≡ and_then (afterRuns small b.now head.duties (goodRuns small b.now head.duties))
+    requires { IsHead b.now head × (head.duties ≤ most_duties) }
+    ensures { form_as result
+        ≡ and_then (after_runs small b.now head.duties (good_runs small b.now head.duties))
         (λ t. answer (reading_of t)) }
 {
     let runs = good_runs(b, head);
@@ -76,7 +76,7 @@ fn form_of_runs(b: &[u8], head: Head) -> Form
 
 // The form of any bytes: their reading, or the first record that is no good.
 pub fn form_of(b: &[u8]) -> Form
-    ensures { formAs result ≡ and_then (readTable b.now) (λ t. answer (reading_of t)) }
+    ensures { form_as result ≡ and_then (read_table b.now) (λ t. answer (reading_of t)) }
 {
     if !head_good(b) {
         return Form::Fault(0);

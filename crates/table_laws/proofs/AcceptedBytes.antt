@@ -13,29 +13,29 @@ use Rattle.paper.specs.Limits.{small}
 use Rattle.paper.specs.Bytes.{encode}
 use Rattle.paper.specs.Rules.{accepted}
 use Rattle.paper.specs.Statements.{Ranged, Meets}
-use Rattle.table_laws.proofs.Accepted.{ranged-long, accepted-iff, accepted-read, read-accepted}
-use Rattle.table_laws.proofs.Written.{small-sound, parse-encode}
-use Rattle.table_laws.proofs.Read.{parse-ranged, parse-told}
+use Rattle.table_laws.proofs.Accepted.{ranged_long, accepted_iff, accepted-read, read-accepted}
+use Rattle.table_laws.proofs.Written.{small_sound, parse_encode}
+use Rattle.table_laws.proofs.Read.{parse_ranged, parse-told}
 
 -- the table in accepted bytes is in form
-pub accepted-ranged : (b : List ℕ) (t : Table) → accepted b ≡ answer t → Ranged small t
-accepted-ranged b t h = parse-ranged small b t (accepted-read b t h).0
+pub accepted_ranged : (b : List ℕ) (t : Table) → accepted b ≡ answer t → Ranged small t
+accepted_ranged b t h = parse_ranged small b t (accepted-read b t h).0
 
 -- and meets the rules
-pub accepted-meets : (b : List ℕ) (t : Table) → accepted b ≡ answer t → Meets t
-accepted-meets b t h = (accepted-iff t (ranged-long (accepted-ranged b t h))).0 (accepted-read b t h).1
+pub accepted_meets : (b : List ℕ) (t : Table) → accepted b ≡ answer t → Meets t
+accepted_meets b t h = (accepted_iff t (ranged_long (accepted_ranged b t h))).0 (accepted-read b t h).1
 
 -- accepted bytes are the table's
 pub accepted-encode : (b : List ℕ) (t : Table) → AreBytes b → accepted b ≡ answer t → encode small t ≡ b
 accepted-encode b t y h = (parse-told small b t y (accepted-read b t h).0).0
 
 -- the bytes of a table that is in form and meets the rules are accepted
-pub meets-accepted : (t : Table) → Ranged small t → Meets t → accepted (encode small t) ≡ answer t
-meets-accepted t r m = read-accepted (encode small t) t (parse-encode small t small-sound r) ((accepted-iff t (ranged-long r)).1 m)
+pub meets_accepted : (t : Table) → Ranged small t → Meets t → accepted (encode small t) ≡ answer t
+meets_accepted t r m = read-accepted (encode small t) t (parse_encode small t small_sound r) ((accepted_iff t (ranged_long r)).1 m)
 
 -- so bytes are accepted as a table exactly when they are its bytes, it is in form and it meets the rules
-pub accepted-when : (b : List ℕ) (t : Table) → AreBytes b → (accepted b ≡ answer t) ↔ ((encode small t ≡ b) × Ranged small t × Meets t)
-accepted-when b t y = (
-  (λ h. (accepted-encode b t y h, accepted-ranged b t h, accepted-meets b t h)),
-  (λ w. rw w.0 at (meets-accepted t w.1 w.2)),
+pub accepted_when : (b : List ℕ) (t : Table) → AreBytes b → (accepted b ≡ answer t) ↔ ((encode small t ≡ b) × Ranged small t × Meets t)
+accepted_when b t y = (
+  (λ h. (accepted-encode b t y h, accepted_ranged b t h, accepted_meets b t h)),
+  (λ w. rw w.0 at (meets_accepted t w.1 w.2)),
 )

@@ -12,32 +12,32 @@ use borrow.Author.Tests.{le-leb, eq-eqb}
 use Rattle.laws.specs.Lists.{tab}
 use Rattle.laws.specs.Digits.{digits, num_at}
 use Rattle.laws.proofs.Cases.{and_both}
-use Rattle.laws.proofs.Lists.{tab-ext, tab-getD}
+use Rattle.laws.proofs.Lists.{tab_ext, tab-get_or}
 use Rattle.laws.proofs.Digits.{length_digits}
-use Rattle.laws.proofs.Parts.{HasPart, holds-left, holds-room, holds-first, holds-field}
+use Rattle.laws.proofs.Parts.{HasPart, holds_left, holds_room, holds_first, holds_field}
 use Rattle.paper.specs.declared.Duty.{Duty}
 use Rattle.paper.specs.declared.Run.{Run}
-use Rattle.paper.specs.Duties.{duty, dutyAt}
+use Rattle.paper.specs.Duties.{duty, duty_at}
 use Rattle.paper.specs.Words.{run, Table, run_at}
-use Rattle.paper.specs.Limits.{Width, headLength, dutyLength, runLength, endLength}
-use Rattle.paper.specs.Bytes.{headBytes, dutyBytes, runBytes, endBytes, encode, dutyPlace, runPlace, stands, ticksIn, enginesIn, dutiesIn}
-use Rattle.paper.specs.Bytes.{dutyIn, runIn, tableIn}
-use Rattle.table_laws.proofs.Bytes.{head-stands, duty-stands, run-stands}
+use Rattle.paper.specs.Limits.{Width, head_length, duty_length, run_length, end_length}
+use Rattle.paper.specs.Bytes.{head_bytes, duty_bytes, run_bytes, end_bytes, encode, duty_place, run_place, stands, ticks_in, engines_in, duties_in}
+use Rattle.paper.specs.Bytes.{duty_in, run_in, table_in}
+use Rattle.table_laws.proofs.Bytes.{head_stands, duty-stands, run-stands}
 
 -- a record that stands somewhere is not cut short and is of its kind
-pub stands-there : {b : List ℕ} {at : ℕ} (kind size : ℕ) (body : List ℕ) → suc (length body) ≡ size → HasPart b at (kind ∷ body)
+pub stands_there : {b : List ℕ} {at : ℕ} (kind size : ℕ) (body : List ℕ) → suc (length body) ≡ size → HasPart b at (kind ∷ body)
     → stands b at kind size ≡ true
 unfolding stands
-stands-there {b} {at} kind size body e h =
+stands_there {b} {at} kind size body e h =
     and_both (leb (at + size) (length b)) (eqb (get_or b at 0) kind)
-    (le-leb (at + size) (length b) (omega (arith, holds-room (kind ∷ body) h)))
-    (eq-eqb (get_or b at 0) kind (holds-first kind body h))
+    (le-leb (at + size) (length b) (omega (arith, holds_room (kind ∷ body) h)))
+    (eq-eqb (get_or b at 0) kind (holds_first kind body h))
 
 -- the head's numbers fit their fields
 pub record HeadFits (w : Width) (t : Table) : Type 0 where
   pub ticks : t.ticks < 256 ^ 4
   pub engines : t.engines < 256 ^ 1
-  pub duties : length t.duties < 256 ^ w.dutyField
+  pub duties : length t.duties < 256 ^ w.duty_field
 
 -- a duty's numbers fit their fields
 pub record DutyFits (x : Duty) : Type 0 where
@@ -47,126 +47,126 @@ pub record DutyFits (x : Duty) : Type 0 where
 -- a run's numbers fit their fields
 pub record RunFits (w : Width) (x : Run) : Type 0 where
   pub row : x.row.0 < 256 ^ 1
-  pub duty : x.duty < 256 ^ w.dutyField
+  pub duty : x.duty < 256 ^ w.duty_field
   pub first : x.first < 256 ^ 4
   pub length : x.length < 256 ^ 4
 
-module _ (w : Width) (t : Table) (b : List ℕ) (h : HasPart b 0 (headBytes w t)) where
+module _ (w : Width) (t : Table) (b : List ℕ) (h : HasPart b 0 (head_bytes w t)) where
   -- the head is of its kind
-  pub head-kind : stands b 0 w.headKind (headLength w) ≡ true
-  unfolding headBytes
-  head-kind =
-      stands-there w.headKind (headLength w) (digits 4 t.ticks ++ digits 1 t.engines ++ digits w.dutyField (length t.duties))
+  pub head_kind_lem : stands b 0 w.head_kind (head_length w) ≡ true
+  unfolding head_bytes
+  head_kind_lem =
+      stands_there w.head_kind (head_length w) (digits 4 t.ticks ++ digits 1 t.engines ++ digits w.duty_field (length t.duties))
       (simp (length-append, length_digits) (omega arith)) h
 
   -- T is read
-  pub head-ticks : HeadFits w t → ticksIn b ≡ t.ticks
-  unfolding headBytes
-  head-ticks f =
-      holds-field (w.headKind ∷ []) 4 t.ticks 1
-      (holds-left (w.headKind ∷ digits 4 t.ticks) (digits 1 t.engines)
-      (holds-left (w.headKind ∷ digits 4 t.ticks ++ digits 1 t.engines) (digits w.dutyField (length t.duties)) h))
+  pub head_ticks : HeadFits w t → ticks_in b ≡ t.ticks
+  unfolding head_bytes
+  head_ticks f =
+      holds_field (w.head_kind ∷ []) 4 t.ticks 1
+      (holds_left (w.head_kind ∷ digits 4 t.ticks) (digits 1 t.engines)
+      (holds_left (w.head_kind ∷ digits 4 t.ticks ++ digits 1 t.engines) (digits w.duty_field (length t.duties)) h))
       (omega arith) f.ticks
 
   -- the number of engines is read
-  pub head-engines : HeadFits w t → enginesIn b ≡ t.engines
-  unfolding headBytes
-  head-engines f =
-      holds-field (w.headKind ∷ digits 4 t.ticks) 1 t.engines 5
-      (holds-left (w.headKind ∷ digits 4 t.ticks ++ digits 1 t.engines) (digits w.dutyField (length t.duties)) h)
+  pub head_engines : HeadFits w t → engines_in b ≡ t.engines
+  unfolding head_bytes
+  head_engines f =
+      holds_field (w.head_kind ∷ digits 4 t.ticks) 1 t.engines 5
+      (holds_left (w.head_kind ∷ digits 4 t.ticks ++ digits 1 t.engines) (digits w.duty_field (length t.duties)) h)
       (simp length_digits) f.engines
 
   -- the number of duties is read
-  pub head-duties : HeadFits w t → dutiesIn w b ≡ length t.duties
-  unfolding headBytes
-  head-duties f =
-      holds-field (w.headKind ∷ digits 4 t.ticks ++ digits 1 t.engines) w.dutyField (length t.duties) 6 h
+  pub head_duties : HeadFits w t → duties_in w b ≡ length t.duties
+  unfolding head_bytes
+  head_duties f =
+      holds_field (w.head_kind ∷ digits 4 t.ticks ++ digits 1 t.engines) w.duty_field (length t.duties) 6 h
       (simp (length-append, length_digits)) f.duties
 
 -- a duty's record is of its kind
-pub duty-kind : (x : Duty) (b : List ℕ) (at : ℕ) → HasPart b at (dutyBytes x) → stands b at 2 dutyLength ≡ true
-unfolding dutyBytes
-duty-kind x b at h = stands-there 2 dutyLength (digits 4 x.service ++ digits 4 x.period) (simp (length-append, length_digits)) h
+pub duty_kind_lem : (x : Duty) (b : List ℕ) (at : ℕ) → HasPart b at (duty_bytes x) → stands b at 2 duty_length ≡ true
+unfolding duty_bytes
+duty_kind_lem x b at h = stands_there 2 duty_length (digits 4 x.service ++ digits 4 x.period) (simp (length-append, length_digits)) h
 
 -- and reads as the duty
-pub duty-read : (x : Duty) (b : List ℕ) (at : ℕ) → HasPart b at (dutyBytes x) → DutyFits x → dutyIn b at ≡ x
-unfolding dutyBytes dutyIn
+pub duty-read : (x : Duty) (b : List ℕ) (at : ℕ) → HasPart b at (duty_bytes x) → DutyFits x → duty_in b at ≡ x
+unfolding duty_bytes duty_in
 duty-read x b at h f =
     rw (
-      holds-field (2 ∷ []) 4 x.service (at + 1) (holds-left (2 ∷ digits 4 x.service) (digits 4 x.period) h) (omega arith)
+      holds_field (2 ∷ []) 4 x.service (at + 1) (holds_left (2 ∷ digits 4 x.service) (digits 4 x.period) h) (omega arith)
           f.service,
-      holds-field (2 ∷ digits 4 x.service) 4 x.period (at + 5) h (simp length_digits) f.period,
+      holds_field (2 ∷ digits 4 x.service) 4 x.period (at + 5) h (simp length_digits) f.period,
     )
 
 -- a run's record is of its kind
-pub run-kind : (w : Width) (x : Run) (b : List ℕ) (at : ℕ) → HasPart b at (runBytes w x) → stands b at w.runKind (runLength w) ≡ true
-unfolding runBytes
-run-kind w x b at h =
-    stands-there w.runKind (runLength w)
-    (digits 1 x.row.0 ++ digits w.dutyField x.duty ++ digits 4 x.first ++ digits 4 x.length)
+pub run_kind_lem : (w : Width) (x : Run) (b : List ℕ) (at : ℕ) → HasPart b at (run_bytes w x) → stands b at w.run_kind (run_length w) ≡ true
+unfolding run_bytes
+run_kind_lem w x b at h =
+    stands_there w.run_kind (run_length w)
+    (digits 1 x.row.0 ++ digits w.duty_field x.duty ++ digits 4 x.first ++ digits 4 x.length)
     (simp (length-append, length_digits) (omega arith)) h
 
 -- and reads as the run
-pub run-read : (w : Width) (x : Run) (b : List ℕ) (at : ℕ) → HasPart b at (runBytes w x) → RunFits w x → runIn w b at ≡ x
-unfolding runBytes runIn
+pub run-read : (w : Width) (x : Run) (b : List ℕ) (at : ℕ) → HasPart b at (run_bytes w x) → RunFits w x → run_in w b at ≡ x
+unfolding run_bytes run_in
 run-read w x b at h f =
-    let a = w.runKind ∷ digits 1 x.row.0 in
-    let c = digits w.dutyField x.duty in
+    let a = w.run_kind ∷ digits 1 x.row.0 in
+    let c = digits w.duty_field x.duty in
     let d = digits 4 x.first in
     let e = digits 4 x.length in
-    let to-first = holds-left (a ++ c ++ d) e h in
-    let to-duty = holds-left (a ++ c) d to-first in
+    let to-first = holds_left (a ++ c ++ d) e h in
+    let to-duty = holds_left (a ++ c) d to-first in
     rw (
-      holds-field (w.runKind ∷ []) 1 x.row.0 (at + 1) (holds-left a c to-duty) (omega arith) f.row,
-      holds-field a w.dutyField x.duty (at + 2) to-duty (simp length_digits) f.duty,
-      holds-field (a ++ c) 4 x.first (at + 2 + w.dutyField) to-first (simp (length-append, length_digits) (omega arith)) f.first,
-      holds-field (a ++ c ++ d) 4 x.length (at + 6 + w.dutyField) h (simp (length-append, length_digits) (omega arith)) f.length,
+      holds_field (w.run_kind ∷ []) 1 x.row.0 (at + 1) (holds_left a c to-duty) (omega arith) f.row,
+      holds_field a w.duty_field x.duty (at + 2) to-duty (simp length_digits) f.duty,
+      holds_field (a ++ c) 4 x.first (at + 2 + w.duty_field) to-first (simp (length-append, length_digits) (omega arith)) f.first,
+      holds_field (a ++ c ++ d) 4 x.length (at + 6 + w.duty_field) h (simp (length-append, length_digits) (omega arith)) f.length,
     )
 
 -- the end record is of its kind
-pub end-kind : (n : ℕ) (b : List ℕ) (at : ℕ) → HasPart b at (endBytes n) → stands b at 4 endLength ≡ true
-unfolding endBytes
-end-kind n b at h = stands-there 4 endLength (digits 2 n) (simp length_digits) h
+pub end_kind_lem : (n : ℕ) (b : List ℕ) (at : ℕ) → HasPart b at (end_bytes n) → stands b at 4 end_length ≡ true
+unfolding end_bytes
+end_kind_lem n b at h = stands_there 4 end_length (digits 2 n) (simp length_digits) h
 
 -- and reads as the number of runs
-pub end_read : (n : ℕ) (b : List ℕ) (at : ℕ) → HasPart b at (endBytes n) → n < 256 ^ 2 → num_at 2 b (at + 1) ≡ n
-unfolding endBytes
-end_read n b at h f = holds-field (4 ∷ []) 2 n (at + 1) h (omega arith) f
+pub end_read : (n : ℕ) (b : List ℕ) (at : ℕ) → HasPart b at (end_bytes n) → n < 256 ^ 2 → num_at 2 b (at + 1) ≡ n
+unfolding end_bytes
+end_read n b at h f = holds_field (4 ∷ []) 2 n (at + 1) h (omega arith) f
 
 -- ---- the table
 
 -- every number of the table fits its field
 pub record InFields (w : Width) (t : Table) : Type 0 where
   pub head : HeadFits w t
-  pub each-duty : (i : ℕ) → i < length t.duties → DutyFits (dutyAt t.duties i)
-  pub each-run : (k : ℕ) → k < length t.runs → RunFits w (run_at t.runs k)
+  pub each_duty : (i : ℕ) → i < length t.duties → DutyFits (duty_at t.duties i)
+  pub each_run : (k : ℕ) → k < length t.runs → RunFits w (run_at t.runs k)
   pub runs : length t.runs < 256 ^ 2
 
 -- the head of a table's bytes has the table's numbers
 module _ (w : Width) (t : Table) (f : InFields w t) where
-  pub ticks-read : ticksIn (encode w t) ≡ t.ticks
-  ticks-read = head-ticks w t (encode w t) (head-stands w t) f.head
+  pub ticks_read : ticks_in (encode w t) ≡ t.ticks
+  ticks_read = head_ticks w t (encode w t) (head_stands w t) f.head
 
-  pub engines-read : enginesIn (encode w t) ≡ t.engines
-  engines-read = head-engines w t (encode w t) (head-stands w t) f.head
+  pub engines_read_lem : engines_in (encode w t) ≡ t.engines
+  engines_read_lem = head_engines w t (encode w t) (head_stands w t) f.head
 
-  pub duties-read : dutiesIn w (encode w t) ≡ length t.duties
-  duties-read = head-duties w t (encode w t) (head-stands w t) f.head
+  pub duties_read : duties_in w (encode w t) ≡ length t.duties
+  duties_read = head_duties w t (encode w t) (head_stands w t) f.head
 
 -- the table in a table's bytes is that table
-pub table-read : (w : Width) (t : Table) → InFields w t → tableIn w (encode w t) (length t.duties) (length t.runs) ≡ t
-unfolding tableIn
-table-read w t f =
-    rw (ticks-read w t f, engines-read w t f, all-duties, all_runs)
+pub table_read : (w : Width) (t : Table) → InFields w t → table_in w (encode w t) (length t.duties) (length t.runs) ≡ t
+unfolding table_in
+table_read w t f =
+    rw (ticks_read w t f, engines_read_lem w t f, all_duties, all_runs)
   where
-    all-duties : tab (length t.duties) (λ d. dutyIn (encode w t) (dutyPlace w d)) ≡ t.duties
-    all-duties =
-        tab-ext (length t.duties) (λ d. dutyIn (encode w t) (dutyPlace w d)) (dutyAt t.duties)
-        (λ d h. duty-read (dutyAt t.duties d) (encode w t) (dutyPlace w d) (duty-stands w t d h) (f.each-duty d h))
-        ∙ tab-getD t.duties (duty 0 0)
+    all_duties : tab (length t.duties) (λ d. duty_in (encode w t) (duty_place w d)) ≡ t.duties
+    all_duties =
+        tab_ext (length t.duties) (λ d. duty_in (encode w t) (duty_place w d)) (duty_at t.duties)
+        (λ d h. duty-read (duty_at t.duties d) (encode w t) (duty_place w d) (duty-stands w t d h) (f.each_duty d h))
+        ∙ tab-get_or t.duties (duty 0 0)
 
-    all_runs : tab (length t.runs) (λ j. runIn w (encode w t) (runPlace w (length t.duties) j)) ≡ t.runs
+    all_runs : tab (length t.runs) (λ j. run_in w (encode w t) (run_place w (length t.duties) j)) ≡ t.runs
     all_runs =
-        tab-ext (length t.runs) (λ j. runIn w (encode w t) (runPlace w (length t.duties) j)) (run_at t.runs)
-        (λ k h. run-read w (run_at t.runs k) (encode w t) (runPlace w (length t.duties) k) (run-stands w t k h) (f.each-run k h))
-        ∙ tab-getD t.runs (run 0 0 0 0)
+        tab_ext (length t.runs) (λ j. run_in w (encode w t) (run_place w (length t.duties) j)) (run_at t.runs)
+        (λ k h. run-read w (run_at t.runs k) (encode w t) (run_place w (length t.duties) k) (run-stands w t k h) (f.each_run k h))
+        ∙ tab-get_or t.runs (run 0 0 0 0)

@@ -12,12 +12,12 @@ use lib.Dec.{ltb, eqb}
 use lib.ListN.{length}
 use borrow.Author.Tests.{ltb-true, lt-ltb, eqb-true, eqb-false, eq-eqb, ne_eqb, not-false}
 use Rattle.laws.specs.Search.{first, any}
-use Rattle.laws.proofs.Cases.{by_cases, lt-or-le, by_order, not-both, refuted, and_left, and_right}
-use Rattle.laws.proofs.Search.{Clear, none-clear, clear_none}
-use Rattle.laws.proofs.Decides.{Decides, Not, divides-decides, none_found}
+use Rattle.laws.proofs.Cases.{by_cases, lt_or_le, by_order, not_both, refuted, and_left, and_right}
+use Rattle.laws.proofs.Search.{Clear, none_clear, clear_none}
+use Rattle.laws.proofs.Decides.{Decides, Not, divides_decides, none_found}
 use Rattle.paper.specs.declared.Duty.{Duty}
 use Rattle.paper.specs.declared.Run.{Run}
-use Rattle.paper.specs.Duties.{dutyAt}
+use Rattle.paper.specs.Duties.{duty_at}
 use Rattle.paper.specs.Words.{stop, undivided, run_at, whole}
 use Rattle.paper.specs.Rules.{before, meet, unordered, overlaps, joins, twice, lowest}
 use Rattle.paper.specs.Statements.{Has, Apart, CommonDivisor}
@@ -35,65 +35,65 @@ pub before-first : (x y : Run) → before x y ≡ true → x.row.0 ≡ y.row.0 �
 unfolding before
 before-first x y h e = ltb-true x.first y.first (rw (eq-eqb x.row.0 y.row.0 e) at h)
 
-pub before-when : (x y : Run) → x.row.0 ≤ y.row.0 → (x.row.0 ≡ y.row.0 → x.first < y.first) → before x y ≡ true
+pub before_when : (x y : Run) → x.row.0 ≤ y.row.0 → (x.row.0 ≡ y.row.0 → x.first < y.first) → before x y ≡ true
 unfolding before
-before-when x y l f =
+before_when x y l f =
     by_cases (eqb x.row.0 y.row.0) (λ e. rw e (lt-ltb x.first y.first (f (eqb-true x.row.0 y.row.0 e))))
     (λ e. rw e (lt-ltb x.row.0 y.row.0 (omega (arith, eqb-false x.row.0 y.row.0 e))))
 
-pub before-trans : (x y z : Run) → before x y ≡ true → before y z ≡ true → before x z ≡ true
-before-trans x y z p q =
+pub before_trans : (x y z : Run) → before x y ≡ true → before y z ≡ true → before x z ≡ true
+before_trans x y z p q =
     let a = before-row x y p in
     let b = before-row y z q in
-    before-when x z (omega arith)
+    before_when x z (omega arith)
     (λ e. let c = before-first x y p (omega arith) in let d = before-first y z q (omega arith) in omega arith)
 
 -- 13 is said of neighbours; by transitivity it holds of any two, the earlier before the later
 abbrev pub InOrder : List Run → Type 0
 InOrder xs = (k : ℕ) → k + 1 < length xs → before (run_at xs k) (run_at xs (k + 1)) ≡ true
 
-order-after : (xs : List Run) → InOrder xs → (j d : ℕ) → j + suc d < length xs → before (run_at xs j) (run_at xs (j + suc d)) ≡ true
-order-after xs o j zero h = o j h
-order-after xs o j (suc d) h =
+order_after : (xs : List Run) → InOrder xs → (j d : ℕ) → j + suc d < length xs → before (run_at xs j) (run_at xs (j + suc d)) ≡ true
+order_after xs o j zero h = o j h
+order_after xs o j (suc d) h =
     let e : j + suc (suc d) ≡ j + suc d + 1 = omega arith in
-    rw e (before-trans (run_at xs j) (run_at xs (j + suc d)) (run_at xs (j + suc d + 1)) (order-after xs o j d (omega arith))
+    rw e (before_trans (run_at xs j) (run_at xs (j + suc d)) (run_at xs (j + suc d + 1)) (order_after xs o j d (omega arith))
     (o (j + suc d) (omega arith)))
 
-pub order-any : (xs : List Run) → InOrder xs → (j k : ℕ) → j < k → k < length xs → before (run_at xs j) (run_at xs k) ≡ true
-order-any xs o j k l h = let e : k ≡ j + suc (k - j - 1) = omega arith in rw e (order-after xs o j (k - j - 1) (omega arith))
+pub order_any : (xs : List Run) → InOrder xs → (j k : ℕ) → j < k → k < length xs → before (run_at xs j) (run_at xs k) ≡ true
+order_any xs o j k l h = let e : k ≡ j + suc (k - j - 1) = omega arith in rw e (order_after xs o j (k - j - 1) (omega arith))
 
 -- the test of 13 finds no run exactly when the runs stand in order
-pub ordered-clear : (xs : List Run) → Clear (unordered xs) (length xs) → InOrder xs
+pub ordered_clear : (xs : List Run) → Clear (unordered xs) (length xs) → InOrder xs
 unfolding unordered
-ordered-clear xs c k h = not-false (before (run_at xs k) (run_at xs (k + 1))) (c (suc k) (omega arith))
+ordered_clear xs c k h = not-false (before (run_at xs k) (run_at xs (k + 1))) (c (suc k) (omega arith))
 
-pub clear-ordered : (xs : List Run) → InOrder xs → Clear (unordered xs) (length xs)
+pub clear_ordered : (xs : List Run) → InOrder xs → Clear (unordered xs) (length xs)
 unfolding unordered
-clear-ordered xs o zero h = refl
-clear-ordered xs o (suc k) h = rw (o k (omega arith))
+clear_ordered xs o zero h = refl
+clear_ordered xs o (suc k) h = rw (o k (omega arith))
 
 -- ---- a shared unit
 
 -- where two runs have a unit in common, each starts before the other stops
-pub shares-meet : (x y : Run) (u : ℕ) → Has x u → Has y u → meet x y ≡ true
+pub shares_meet : (x y : Run) (u : ℕ) → Has x u → Has y u → meet x y ≡ true
 unfolding meet
-shares-meet x y u p q = rw (lt-ltb x.first (stop y) (omega arith), lt-ltb y.first (stop x) (omega arith))
+shares_meet x y u p q = rw (lt-ltb x.first (stop y) (omega arith), lt-ltb y.first (stop x) (omega arith))
 
 -- where each of two runs of some length starts before the other stops, the later start is a unit of both
-pub meet-shares : (x y : Run) → 1 ≤ x.length → 1 ≤ y.length → meet x y ≡ true → (u : ℕ) × Has x u × Has y u
+pub meet_shares : (x y : Run) → 1 ≤ x.length → 1 ≤ y.length → meet x y ≡ true → (u : ℕ) × Has x u × Has y u
 unfolding meet
-meet-shares x y lx ly h =
+meet_shares x y lx ly h =
     let p = ltb-true x.first (stop y) (and_left (ltb x.first (stop y)) (ltb y.first (stop x)) h) in
     let q = ltb-true y.first (stop x) (and_right (ltb x.first (stop y)) (ltb y.first (stop x)) h) in
-    lt-or-le x.first y.first (λ l. (y.first, (omega arith, omega arith), (omega arith, omega arith)))
+    lt_or_le x.first y.first (λ l. (y.first, (omega arith, omega arith), (omega arith, omega arith)))
     (λ l. (x.first, (omega arith, omega arith), (omega arith, omega arith)))
 
 -- so the test fails exactly when they share none
-pub meet-apart : (x y : Run) → meet x y ≡ false → Apart x y
-meet-apart x y h u p q = not-both (shares-meet x y u p q) h
+pub meet_apart : (x y : Run) → meet x y ≡ false → Apart x y
+meet_apart x y h u p q = not_both (shares_meet x y u p q) h
 
-pub apart-meet : (x y : Run) → 1 ≤ x.length → 1 ≤ y.length → Apart x y → meet x y ≡ false
-apart-meet x y lx ly a = refuted (meet x y) (λ h. let s = meet-shares x y lx ly h in a s.0 s.1 s.2)
+pub apart_meet : (x y : Run) → 1 ≤ x.length → 1 ≤ y.length → Apart x y → meet x y ≡ false
+apart_meet x y lx ly a = refuted (meet x y) (λ h. let s = meet_shares x y lx ly h in a s.0 s.1 s.2)
 
 -- ---- a run and an earlier one
 
@@ -102,34 +102,34 @@ abbrev pub NoPair : (Run → Run → Bool) → List Run → Type 0
 NoPair bad xs = (j k : ℕ) → j < k → k < length xs → bad (run_at xs j) (run_at xs k) ≡ false
 
 -- the search of 14, 15 and 16 finds no run exactly when no two runs are so
-pub lowest-none : (bad : Run → Run → Bool) (xs : List Run) → ltb (lowest bad xs) (length xs) ≡ false → NoPair bad xs
-lowest-none bad xs h j k l m =
-    none-clear (λ i. bad (run_at xs i) (run_at xs k)) k (none-clear (λ i. any (λ n. bad (run_at xs n) (run_at xs i)) i) (length xs) h k m) j l
+pub lowest_none : (bad : Run → Run → Bool) (xs : List Run) → ltb (lowest bad xs) (length xs) ≡ false → NoPair bad xs
+lowest_none bad xs h j k l m =
+    none_clear (λ i. bad (run_at xs i) (run_at xs k)) k (none_clear (λ i. any (λ n. bad (run_at xs n) (run_at xs i)) i) (length xs) h k m) j l
 
-pub none-lowest : (bad : Run → Run → Bool) (xs : List Run) → NoPair bad xs → ltb (lowest bad xs) (length xs) ≡ false
-none-lowest bad xs c =
+pub none_lowest : (bad : Run → Run → Bool) (xs : List Run) → NoPair bad xs → ltb (lowest bad xs) (length xs) ≡ false
+none_lowest bad xs c =
     clear_none (λ k. any (λ j. bad (run_at xs j) (run_at xs k)) k) (length xs)
     (λ k m. clear_none (λ j. bad (run_at xs j) (run_at xs k)) k (λ j l. c j k l m))
 
 -- 14: on one row two runs share no unit
-pub overlaps-apart : (x y : Run) → overlaps x y ≡ false → x.row.0 ≡ y.row.0 → Apart x y
+pub overlaps_apart : (x y : Run) → overlaps x y ≡ false → x.row.0 ≡ y.row.0 → Apart x y
 unfolding overlaps
-overlaps-apart x y h e = meet-apart x y (rw (eq-eqb x.row.0 y.row.0 e) at h)
+overlaps_apart x y h e = meet_apart x y (rw (eq-eqb x.row.0 y.row.0 e) at h)
 
-pub apart-overlaps : (x y : Run) → 1 ≤ x.length → 1 ≤ y.length → (x.row.0 ≡ y.row.0 → Apart x y) → overlaps x y ≡ false
+pub apart_overlaps : (x y : Run) → 1 ≤ x.length → 1 ≤ y.length → (x.row.0 ≡ y.row.0 → Apart x y) → overlaps x y ≡ false
 unfolding overlaps
-apart-overlaps x y lx ly a =
-    by_cases (eqb x.row.0 y.row.0) (λ e. rw e (apart-meet x y lx ly (a (eqb-true x.row.0 y.row.0 e)))) (λ e. rw e)
+apart_overlaps x y lx ly a =
+    by_cases (eqb x.row.0 y.row.0) (λ e. rw e (apart_meet x y lx ly (a (eqb-true x.row.0 y.row.0 e)))) (λ e. rw e)
 
 -- 15: of one row and duty, the later run does not start where the earlier stops
-pub joins-not : (x y : Run) → joins x y ≡ false → x.row.0 ≡ y.row.0 → x.duty ≡ y.duty → stop x ≡ y.first → ⊥
+pub joins_not : (x y : Run) → joins x y ≡ false → x.row.0 ≡ y.row.0 → x.duty ≡ y.duty → stop x ≡ y.first → ⊥
 unfolding joins
-joins-not x y h r d s =
-    not-both (rw (eq-eqb x.row.0 y.row.0 r, eq-eqb x.duty y.duty d, eq-eqb (stop x) y.first s)) h
+joins_not x y h r d s =
+    not_both (rw (eq-eqb x.row.0 y.row.0 r, eq-eqb x.duty y.duty d, eq-eqb (stop x) y.first s)) h
 
-pub not-joins : (x y : Run) → (x.row.0 ≡ y.row.0 → x.duty ≡ y.duty → stop x ≡ y.first → ⊥) → joins x y ≡ false
+pub not_joins : (x y : Run) → (x.row.0 ≡ y.row.0 → x.duty ≡ y.duty → stop x ≡ y.first → ⊥) → joins x y ≡ false
 unfolding joins
-not-joins x y n =
+not_joins x y n =
     by_cases (eqb x.row.0 y.row.0)
     (λ r. by_cases (eqb x.duty y.duty)
     (λ d. rw (r, d) (ne_eqb (stop x) y.first (λ s. n (eqb-true x.row.0 y.row.0 r) (eqb-true x.duty y.duty d) s)))
@@ -137,18 +137,18 @@ not-joins x y n =
     (λ r. rw r)
 
 -- 16: on two rows two runs of one duty share no unit
-pub twice-apart : (x y : Run) → twice x y ≡ false → x.duty ≡ y.duty → (x.row.0 ≡ y.row.0 → ⊥) → Apart x y
+pub twice_apart : (x y : Run) → twice x y ≡ false → x.duty ≡ y.duty → (x.row.0 ≡ y.row.0 → ⊥) → Apart x y
 unfolding twice
-twice-apart x y h d r = meet-apart x y (rw (ne_eqb x.row.0 y.row.0 r, eq-eqb x.duty y.duty d) at h)
+twice_apart x y h d r = meet_apart x y (rw (ne_eqb x.row.0 y.row.0 r, eq-eqb x.duty y.duty d) at h)
 
-pub apart-twice : (x y : Run) → 1 ≤ x.length → 1 ≤ y.length → (x.duty ≡ y.duty → (x.row.0 ≡ y.row.0 → ⊥) → Apart x y) → twice x y
+pub apart_twice : (x y : Run) → 1 ≤ x.length → 1 ≤ y.length → (x.duty ≡ y.duty → (x.row.0 ≡ y.row.0 → ⊥) → Apart x y) → twice x y
     ≡ false
 unfolding twice
-apart-twice x y lx ly a =
+apart_twice x y lx ly a =
     by_cases (eqb x.row.0 y.row.0)
     (λ r. rw r)
     (λ r. by_cases (eqb x.duty y.duty)
-    (λ d. rw (r, d) (apart-meet x y lx ly (a (eqb-true x.duty y.duty d) (eqb-false x.row.0 y.row.0 r))))
+    (λ d. rw (r, d) (apart_meet x y lx ly (a (eqb-true x.duty y.duty d) (eqb-false x.row.0 y.row.0 r))))
     (λ d. rw (r, d)))
 
 -- 15 of all runs: a run of the same row that stops where this one starts is another and stands before it
@@ -158,30 +158,30 @@ NotJoined xs = (j k : ℕ) → j < length xs → k < length xs → (run_at xs j)
 
 pub joins_any : (xs : List Run) → InOrder xs → ((k : ℕ) → k < length xs → 1 ≤ (run_at xs k).length) → NoPair joins xs → NotJoined xs
 joins_any xs o long n j k hj hk r d s =
-    by_order j k (λ l. joins-not (run_at xs j) (run_at xs k) (n j k l hk) r d s)
-    (λ l. let b = before-first (run_at xs k) (run_at xs j) (order-any xs o k j l hj) (sym r) in omega arith)
+    by_order j k (λ l. joins_not (run_at xs j) (run_at xs k) (n j k l hk) r d s)
+    (λ l. let b = before-first (run_at xs k) (run_at xs j) (order_any xs o k j l hj) (sym r) in omega arith)
     (λ e. omega (arith, long j hj, ap (λ (i : ℕ). (run_at xs i).first) e))
 
 -- ---- a duty
 
 -- 11: T divides every period, or there is one that it does not divide
-pub divided-when : (t : ℕ) (ds : List Duty) → (undivided t ds ≡ false) ↔ CommonDivisor t ds
-divided-when t ds = none_found (λ i. divides-decides t (dutyAt ds i).period) (length ds)
+pub divided_when : (t : ℕ) (ds : List Duty) → (undivided t ds ≡ false) ↔ CommonDivisor t ds
+divided_when t ds = none_found (λ i. divides_decides t (duty_at ds i).period) (length ds)
 
-pub undivided-when : (t : ℕ) (ds : List Duty) → (undivided t ds ≡ true) ↔ Not (CommonDivisor t ds)
-undivided-when t ds = (
-  (λ h c. not-both h ((divided-when t ds).1 c)),
-  (λ n. by_cases (undivided t ds) (λ h. h) (λ h. absurd (n ((divided-when t ds).0 h)))),
+pub undivided_when : (t : ℕ) (ds : List Duty) → (undivided t ds ≡ true) ↔ Not (CommonDivisor t ds)
+undivided_when t ds = (
+  (λ h c. not_both h ((divided_when t ds).1 c)),
+  (λ n. by_cases (undivided t ds) (λ h. h) (λ h. absurd (n ((divided_when t ds).0 h)))),
 )
 
 -- 12: a slice is whole exactly when the period divides T times the service
-pub whole-decides : (t : ℕ) (x : Duty) → Decides (whole t x) (x.period ∣ t * x.service)
+pub whole_decides : (t : ℕ) (x : Duty) → Decides (whole t x) (x.period ∣ t * x.service)
 unfolding whole
-whole-decides t x = divides-decides x.period (t * x.service)
+whole_decides t x = divides_decides x.period (t * x.service)
 
 -- what 6 and 12 ask of duty i, and of all duties
 abbrev pub Whole : ℕ → List Duty → ℕ → Type 0
-Whole t ds i = (dutyAt ds i).period ∣ t * (dutyAt ds i).service
+Whole t ds i = (duty_at ds i).period ∣ t * (duty_at ds i).service
 
 abbrev pub Wholes : ℕ → List Duty → Type 0
 Wholes t ds = (i : ℕ) → i < length ds → Whole t ds i

@@ -1,12 +1,12 @@
 // The lines of a plan: of what stands in a table, one for the plan, one for each duty and one for each run; and the lines of a chain and of
 // the loads.
 ghost use Rattle.std.specs.Prelude.{[], ◌∷◌, ◌+◌, ◌≤◌, length};
-ghost use Rattle.paper.specs.Limits.{mostTicks, mostEngines, mostDuties, mostRuns};
-ghost use Rattle.paper.specs.Limits.{planLineRoom, dutyLinesRoom, runLinesRoom, tableLinesRoom, chainLineRoom, loadsLineRoom};
-ghost use Rattle.paper.specs.Text.{printLine, planWord, dutyWord, runLine, chainLine, loadsWord};
+ghost use Rattle.paper.specs.Limits.{most_ticks, most_engines, most_duties, most_runs};
+ghost use Rattle.paper.specs.Limits.{plan_line_room, duty_lines_room, run_lines_room, table_lines_room, chain_line_room, loads_line_room};
+ghost use Rattle.paper.specs.Text.{print_line, plan_word, duty_word, run_line, chain_line, loads_word};
 ghost use Rattle.record_read.specs.Formed.{Formed, table_of};
 ghost use Rattle.paper.specs.Outcome.{Puts};
-ghost use Rattle.table_lines.specs.Parts.{dutyLines, runLines, tableLines};
+ghost use Rattle.table_lines.specs.Parts.{duty_lines, run_lines, table_lines};
 
 use line_print::print_line;
 use paper::{Chain, Duty, Reading, Run};
@@ -14,10 +14,10 @@ use record_read::{duty_of, run_of};
 
 // The plan: block length, engines, duties.
 fn print_plan_line(out: &mut [u8], rd: Reading) -> usize
-    requires block_length_bound { (rd.block_length ≤ mostTicks) × (rd.engines ≤ mostEngines) × (rd.duties ≤ mostDuties) }
-    requires plan_line_room_in_bounds { planLineRoom ≤ length out.old }
-    ensures puts { Puts (printLine planWord (rd.block_length ∷ rd.engines ∷ rd.duties ∷ [])) out.old out.new result }
-    ensures upper_bound { result ≤ planLineRoom }
+    requires block_length_bound { (rd.block_length ≤ most_ticks) × (rd.engines ≤ most_engines) × (rd.duties ≤ most_duties) }
+    requires plan_line_room_in_bounds { plan_line_room ≤ length out.old }
+    ensures puts { Puts (print_line plan_word (rd.block_length ∷ rd.engines ∷ rd.duties ∷ [])) out.old out.new result }
+    ensures upper_bound { result ≤ plan_line_room }
 {
     let numbers = [rd.block_length as u64, rd.engines as u64, rd.duties as u64];
     print_line(out, b"plan", &numbers)
@@ -25,8 +25,8 @@ fn print_plan_line(out: &mut [u8], rd: Reading) -> usize
 
 // A duty: number, service, period.
 fn print_duty(out: &mut [u8], i: u64, x: Duty) -> usize
-    requires { length (printLine dutyWord (i ∷ x.service ∷ x.period ∷ [])) ≤ length out.old }
-    ensures { Puts (printLine dutyWord (i ∷ x.service ∷ x.period ∷ [])) out.old out.new result }
+    requires { length (print_line duty_word (i ∷ x.service ∷ x.period ∷ [])) ≤ length out.old }
+    ensures { Puts (print_line duty_word (i ∷ x.service ∷ x.period ∷ [])) out.old out.new result }
 {
     let numbers = [i, x.service as u64, x.period as u64];
     print_line(out, b"duty", &numbers)
@@ -34,8 +34,8 @@ fn print_duty(out: &mut [u8], i: u64, x: Duty) -> usize
 
 // A run: row, duty, first unit, length.
 fn print_run(out: &mut [u8], x: Run) -> usize
-    requires { length (runLine x) ≤ length out.old }
-    ensures { Puts (runLine x) out.old out.new result }
+    requires { length (run_line x) ≤ length out.old }
+    ensures { Puts (run_line x) out.old out.new result }
 {
     let numbers = [
         x.row.0 as u64,
@@ -49,9 +49,9 @@ fn print_run(out: &mut [u8], x: Run) -> usize
 // The duties, one line each.
 fn print_duties(out: &mut [u8], b: &[u8], rd: Reading) -> usize
     requires formed { Formed b.now rd }
-    requires duty_lines_room_in_bounds { dutyLinesRoom ≤ length out.old }
-    ensures puts { Puts (dutyLines (table_of b.now rd)) out.old out.new result }
-    ensures upper_bound { result ≤ dutyLinesRoom }
+    requires duty_lines_room_in_bounds { duty_lines_room ≤ length out.old }
+    ensures puts { Puts (duty_lines (table_of b.now rd)) out.old out.new result }
+    ensures upper_bound { result ≤ duty_lines_room }
 {
     let n = rd.duties as usize;
     let mut at = 0;
@@ -66,9 +66,9 @@ fn print_duties(out: &mut [u8], b: &[u8], rd: Reading) -> usize
 // The runs, in table order.
 fn print_runs(out: &mut [u8], b: &[u8], rd: Reading) -> usize
     requires formed { Formed b.now rd }
-    requires run_lines_room_in_bounds { runLinesRoom ≤ length out.old }
-    ensures puts { Puts (runLines (table_of b.now rd)) out.old out.new result }
-    ensures upper_bound { result ≤ runLinesRoom }
+    requires run_lines_room_in_bounds { run_lines_room ≤ length out.old }
+    ensures puts { Puts (run_lines (table_of b.now rd)) out.old out.new result }
+    ensures upper_bound { result ≤ run_lines_room }
 {
     let n = rd.runs as usize;
     let mut at = 0;
@@ -83,9 +83,9 @@ fn print_runs(out: &mut [u8], b: &[u8], rd: Reading) -> usize
 // What stands in the table: plan, duties, runs.
 pub fn print_table(out: &mut [u8], b: &[u8], rd: Reading) -> usize
     requires formed { Formed b.now rd }
-    requires table_lines_room_in_bounds { tableLinesRoom ≤ length out.old }
-    ensures puts { Puts (tableLines (table_of b.now rd)) out.old out.new result }
-    ensures upper_bound { result ≤ tableLinesRoom }
+    requires table_lines_room_in_bounds { table_lines_room ≤ length out.old }
+    ensures puts { Puts (table_lines (table_of b.now rd)) out.old out.new result }
+    ensures upper_bound { result ≤ table_lines_room }
 {
     let duties = print_plan_line(out, rd);
     let runs = duties + print_duties(&mut out[duties..], b, rd);
@@ -94,9 +94,9 @@ pub fn print_table(out: &mut [u8], b: &[u8], rd: Reading) -> usize
 
 // A chain: first row, length.
 pub fn print_chain(out: &mut [u8], chain: Chain) -> usize
-    requires { (chain.first.0 ≤ mostEngines) × (chain.length ≤ mostEngines + 1) × (chainLineRoom ≤ length out.old) }
-    ensures puts { Puts (chainLine chain) out.old out.new result }
-    ensures upper_bound { result ≤ chainLineRoom }
+    requires { (chain.first.0 ≤ most_engines) × (chain.length ≤ most_engines + 1) × (chain_line_room ≤ length out.old) }
+    ensures puts { Puts (chain_line chain) out.old out.new result }
+    ensures upper_bound { result ≤ chain_line_room }
 {
     let numbers = [chain.first.0 as u64, chain.length as u64];
     print_line(out, b"chain", &numbers)
@@ -104,9 +104,9 @@ pub fn print_chain(out: &mut [u8], chain: Chain) -> usize
 
 // The loads: in block 0, in each later block.
 pub fn print_loads(out: &mut [u8], first: u32, later: u32) -> usize
-    requires { (first ≤ mostRuns) × (later ≤ mostRuns) × (loadsLineRoom ≤ length out.old) }
-    ensures puts { Puts (printLine loadsWord (first ∷ later ∷ [])) out.old out.new result }
-    ensures upper_bound { result ≤ loadsLineRoom }
+    requires { (first ≤ most_runs) × (later ≤ most_runs) × (loads_line_room ≤ length out.old) }
+    ensures puts { Puts (print_line loads_word (first ∷ later ∷ [])) out.old out.new result }
+    ensures upper_bound { result ≤ loads_line_room }
 {
     let numbers = [first as u64, later as u64];
     print_line(out, b"loads", &numbers)

@@ -7,20 +7,20 @@ use lib.ListN.{length}
 use borrow.Author.Tests.{le-ltb}
 use Rattle.paper.specs.declared.State.{State}
 use Rattle.paper.specs.declared.Dispatched.{Dispatched}
-use Rattle.paper.specs.Outcome.{Outcome, verdictAs}
+use Rattle.paper.specs.Outcome.{Outcome, verdict_as}
 use Rattle.paper.specs.Answers.{Hands}
-use Rattle.paper.specs.Face.{Tells, entries, needing, stateEntries}
+use Rattle.paper.specs.Face.{Tells, entries, needing, state_entries}
 use Rattle.plan_laws.proofs.Listed.{Listed}
 use Rattle.face_entries.specs.InWord.{InWord}
-use Rattle.tickplume.proofs.Telling.{listed-fits}
+use Rattle.tickplume.proofs.Telling.{listed_fits}
 
 module _ {o : Outcome State} {r : Dispatched} (h : Hands o r) where
   -- a refusal that is listed fits a word
-  pub hands-fits : {P : ℕ → Type 0} → Listed P o → InWord r.verdict
-  hands-fits l x v = listed-fits l (sym h.said ∙ ap (λ w. verdictAs w r.state) v)
+  pub hands_fits : {P : ℕ → Type 0} → Listed P o → InWord r.verdict
+  hands_fits l x v = listed_fits l (sym h.said ∙ ap (λ w. verdict_as w r.state) v)
 
   -- what is told of the verdict and the state is told of the outcome
-  pub hands-told : (n : ℕ) {word : ℕ} {lent after : List ℕ} → n ≤ length lent
-      → Tells (entries stateEntries (verdictAs r.verdict r.state)) word lent after
-      → Tells (needing n lent (entries stateEntries o)) word lent after
-  hands-told n {lent = lent} l t = rw (le-ltb (length lent) n l) (rw h.said at t)
+  pub hands_told : (n : ℕ) {word : ℕ} {lent after : List ℕ} → n ≤ length lent
+      → Tells (entries state_entries (verdict_as r.verdict r.state)) word lent after
+      → Tells (needing n lent (entries state_entries o)) word lent after
+  hands_told n {lent = lent} l t = rw (le-ltb (length lent) n l) (rw h.said at t)

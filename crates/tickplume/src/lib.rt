@@ -4,8 +4,8 @@
 ghost use Rattle.std.specs.Prelude.{◌≡◌};
 ghost use Rattle.paper.specs.Outcome.{leaves};
 ghost use Rattle.paper.specs.Wanted.{wanted};
-ghost use Rattle.paper.specs.Face.{Tells, buildCall, buildEntries, judgeCall, questionCall, startCall, rowCall, nextCall, countCall};
-ghost use Rattle.paper.specs.Face.{sharesCall, sharesEntries, sharesLeft, shareAtCall};
+ghost use Rattle.paper.specs.Face.{Tells, build_call, build_entries, judge_call, question_call, start_call, row_call, next_call, count_call};
+ghost use Rattle.paper.specs.Face.{shares_call, shares_entries, shares_left, share_at_call};
 
 use asked::Dispatcher;
 use face_entries::{hand_over, put_reading, put_reply, put_share_reading, state_in};
@@ -24,10 +24,10 @@ pub extern "C" fn tickplume_build(
     answer: &mut [u64],
 ) -> u64
     ensures tells { Tells
-        (buildEntries (buildCall block_length (wanted engines services.now periods.now) table.old
+        (build_entries (build_call block_length (wanted engines services.now periods.now) table.old
         answer.old)) result answer.old answer.new }
     ensures table_after { table.new ≡ leaves
-        (buildCall block_length (wanted engines services.now periods.now) table.old
+        (build_call block_length (wanted engines services.now periods.now) table.old
         answer.old) table.old }
 {
     if answer.len() < WORD_ROOM {
@@ -45,7 +45,7 @@ pub extern "C" fn tickplume_build(
 // The reading of any bytes, or the fault.
 #[unsafe(no_mangle)]
 pub extern "C" fn tickplume_judge(table: &[u8], answer: &mut [u64]) -> u64
-    ensures { Tells (judgeCall table.now answer.old) result answer.old answer.new }
+    ensures { Tells (judge_call table.now answer.old) result answer.old answer.new }
 {
     if answer.len() < READING_ROOM {
         return too_short(READING_ROOM);
@@ -67,7 +67,7 @@ pub extern "C" fn tickplume_question(
     tick: u64,
     answer: &mut [u64],
 ) -> u64
-    ensures { Tells (questionCall table.now engine tick answer.old) result answer.old
+    ensures { Tells (question_call table.now engine tick answer.old) result answer.old
         answer.new }
 {
     if answer.len() < REPLY_ROOM {
@@ -85,7 +85,7 @@ pub extern "C" fn tickplume_question(
 // The dispatcher's state for a block.
 #[unsafe(no_mangle)]
 pub extern "C" fn tickplume_start(table: &[u8], block: u64, state: &mut [u64]) -> u64
-    ensures { Tells (startCall table.now block state.old) result state.old state.new }
+    ensures { Tells (start_call table.now block state.old) result state.old state.new }
 {
     if state.len() < STATE_ROOM {
         return too_short(STATE_ROOM);
@@ -96,7 +96,7 @@ pub extern "C" fn tickplume_start(table: &[u8], block: u64, state: &mut [u64]) -
 // The row of an engine in the state's block.
 #[unsafe(no_mangle)]
 pub extern "C" fn tickplume_row(table: &[u8], state: &[u64], engine: u32, answer: &mut [u64]) -> u64
-    ensures { Tells (rowCall table.now state.now engine answer.old) result answer.old
+    ensures { Tells (row_call table.now state.now engine answer.old) result answer.old
         answer.new }
 {
     if state.len() < STATE_ROOM {
@@ -118,7 +118,7 @@ pub extern "C" fn tickplume_row(table: &[u8], state: &[u64], engine: u32, answer
 // The state of the next block, in the place of this one.
 #[unsafe(no_mangle)]
 pub extern "C" fn tickplume_next(table: &[u8], state: &mut [u64]) -> u64
-    ensures { Tells (nextCall table.now state.old) result state.old state.new }
+    ensures { Tells (next_call table.now state.old) result state.old state.new }
 {
     if state.len() < STATE_ROOM {
         return too_short(STATE_ROOM);
@@ -130,7 +130,7 @@ pub extern "C" fn tickplume_next(table: &[u8], state: &mut [u64]) -> u64
 // The loads of the first blocks.
 #[unsafe(no_mangle)]
 pub extern "C" fn tickplume_count(table: &[u8], blocks: u64, answer: &mut [u64]) -> u64
-    ensures { Tells (countCall table.now blocks answer.old) result answer.old answer.new }
+    ensures { Tells (count_call table.now blocks answer.old) result answer.old answer.new }
 {
     if answer.len() < WORD_ROOM {
         return too_short(WORD_ROOM);
@@ -154,10 +154,10 @@ pub extern "C" fn tickplume_shares(
     answer: &mut [u64],
 ) -> u64
     ensures tells { Tells
-        (sharesEntries (sharesCall (wanted engines services.now periods.now) allotments.old
+        (shares_entries (shares_call (wanted engines services.now periods.now) allotments.old
         answer.old)) result answer.old answer.new }
     ensures allotments_after { allotments.new ≡ leaves
-        (sharesLeft (sharesCall (wanted engines services.now periods.now) allotments.old
+        (shares_left (shares_call (wanted engines services.now periods.now) allotments.old
         answer.old)) allotments.old }
 {
     if answer.len() < SHARE_READING_ROOM {
@@ -183,7 +183,7 @@ pub extern "C" fn tickplume_share_at(
     answer: &mut [u64],
 ) -> u64
     ensures { Tells
-        (shareAtCall (wanted engines services.now periods.now) engine tick answer.old) result
+        (share_at_call (wanted engines services.now periods.now) engine tick answer.old) result
         answer.old answer.new }
 {
     if answer.len() < WORD_ROOM {

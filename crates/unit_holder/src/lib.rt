@@ -1,8 +1,8 @@
 // Who holds a unit of a row, read off table bytes in good form.
 ghost use Rattle.std.specs.Prelude.{◌≡◌, ◌≤◌, ◌<◌};
 ghost use Rattle.laws.specs.Search.{first};
-ghost use Rattle.paper.specs.Words.{stop, covers, run_at, heldIn};
-ghost use Rattle.paper.specs.Limits.{mostTicks};
+ghost use Rattle.paper.specs.Words.{stop, covers, run_at, held_in};
+ghost use Rattle.paper.specs.Limits.{most_ticks};
 ghost use Rattle.record_read.specs.Formed.{Formed, table_of};
 
 use paper::{Held, Reading, Row, Run};
@@ -10,7 +10,7 @@ use record_read::run_of;
 
 // Whether a run is on the row and has the unit.
 fn run_covers(x: Run, row: Row, unit: u32) -> bool
-    requires { stop x ≤ mostTicks }
+    requires { stop x ≤ most_ticks }
     ensures { result ≡ covers x row unit }
 {
     (x.row.0 == row.0) & (x.first <= unit) & (unit < x.first + x.length)
@@ -47,7 +47,7 @@ pub fn find_run(b: &[u8], rd: Reading, row: Row, unit: u32) -> usize
 // What holds a unit of a row.
 pub fn held(b: &[u8], rd: Reading, row: Row, unit: u32) -> Held
     requires { Formed b.now rd }
-    ensures { result ≡ heldIn (table_of b.now rd).runs row unit }
+    ensures { result ≡ held_in (table_of b.now rd).runs row unit }
 {
     let k = find_run(b, rd, row, unit);
     if k < rd.runs as usize {

@@ -1,6 +1,6 @@
 -- `count`: judged first; then the loads of the table in the bytes.
 -- Assumes nothing.
-use Rattle.judge.proofs.Asked.{ready_read, asked-accepted, asked-refused}
+use Rattle.judge.proofs.Asked.{ready_read, asked_accepted, asked_refused}
 use borrow.Author.Rules.{rules}
 use Rattle.asked.proofs.count.Statement.{statement}
 use Rattle.asked.proofs.count.Tie as tie
@@ -9,10 +9,10 @@ count-in-requires : tie.Need-count-in-requires
 count-in-requires c κs = search ready_read
 
 returns : tie.Need-returns
-returns c = search asked-accepted
+returns c = search asked_accepted
 
 returns-2 : tie.Need-returns-2
-returns-2 c = search asked-refused
+returns-2 c = search asked_refused
 
 pub count_spec : {M : Type 1} → statement M
 count_spec =

@@ -1,6 +1,6 @@
 -- `question`: judged first; then the reply of the table in the bytes.
 -- Assumes nothing.
-use Rattle.judge.proofs.Asked.{ready_read, asked-accepted, asked-refused}
+use Rattle.judge.proofs.Asked.{ready_read, asked_accepted, asked_refused}
 use borrow.Author.Rules.{rules}
 use Rattle.asked.proofs.question.Statement.{statement}
 use Rattle.asked.proofs.question.Tie as tie
@@ -9,10 +9,10 @@ reply-at-requires : tie.Need-reply-at-requires
 reply-at-requires c κs = search ready_read
 
 returns : tie.Need-returns
-returns c = search asked-accepted
+returns c = search asked_accepted
 
 returns-2 : tie.Need-returns-2
-returns-2 c = search asked-refused
+returns-2 c = search asked_refused
 
 pub question-spec : {M : Type 1} → statement M
 question-spec =

@@ -4,8 +4,8 @@ use mathlib.Core.Path.{sym, ◌∙◌}
 use borrow.Author.Rules.{rules}
 use lib.ListN.{length}
 use Rattle.paper.specs.Wanted.{wanted}
-use Rattle.paper.proofs.Outcomes.{writes-refused}
-use Rattle.builder.proofs.AfterTaken.{not-built}
+use Rattle.paper.proofs.Outcomes.{writes_refused}
+use Rattle.builder.proofs.AfterTaken.{not_built}
 use Rattle.builder.proofs.build.Statement.{statement}
 use Rattle.builder.proofs.build.Tie as tie
 
@@ -18,8 +18,8 @@ returns c =
     let taking = c.before.before.before in
     let args = taking.before.before.before.before.args in
     let x = wanted args.engines args.services.now args.periods.now in
-    writes-refused _ _
-    (not-built args.wish x _ taking.take-duties.ensures _ (length args.out.now) c.before.verdict.given.1)
+    writes_refused _ _
+    (not_built args.wish x _ taking.take-duties.ensures _ (length args.out.now) c.before.verdict.given.1)
 
 pub build-spec : {M : Type 1} → statement M
 build-spec =

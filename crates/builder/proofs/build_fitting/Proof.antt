@@ -10,27 +10,27 @@ use lib.ListN.{length}
 use Rattle.paper.specs.declared.Duty.{Duty}
 use Rattle.paper.specs.declared.Written.TheVariants.{Length}
 use Rattle.paper.specs.Sa1.{sa1}
-use Rattle.paper.specs.Outcome.{Outcome, answer, and_then, writtenAs}
-use Rattle.paper.specs.Limits.{small, tableLength}
+use Rattle.paper.specs.Outcome.{Outcome, answer, and_then, written_as}
+use Rattle.paper.specs.Limits.{small, table_length}
 use Rattle.paper.specs.Bytes.{bytes_of}
-use Rattle.paper.specs.Wanted.{dutiesOf}
-use Rattle.paper.proofs.Outcomes.{writes-refused, writes-length}
-use Rattle.plan_laws.proofs.Planned.{length-duties}
-use Rattle.sa1_runs.specs.Laying.{unitsTo}
-use Rattle.sa1_runs.proofs.Fitting.{fitted-told}
+use Rattle.paper.specs.Wanted.{duties_of}
+use Rattle.paper.proofs.Outcomes.{writes_refused, writes_length}
+use Rattle.plan_laws.proofs.Planned.{length_duties}
+use Rattle.sa1_runs.specs.Laying.{units_to}
+use Rattle.sa1_runs.proofs.Fitting.{fitted_told}
 use Rattle.sa1_measure.specs.Layouts.{LaidOut}
 use Rattle.sa1_table.proofs.Table.{sa1-length}
-use Rattle.builder.specs.BuildAt.{buildAt}
-use Rattle.builder.proofs.Sized.{refusal-6, past-6}
+use Rattle.builder.specs.BuildAt.{build_at}
+use Rattle.builder.proofs.Sized.{refusal_6, past_6}
 use Rattle.builder.proofs.build_fitting.Statement.{statement}
 use Rattle.builder.proofs.build_fitting.Tie as tie
 
 -- the duties, and the bytes of SA1's table of them
 abbrev duties : tie.Start → List Duty
-duties s = dutiesOf s.args.services.now s.args.periods.now
+duties s = duties_of s.args.services.now s.args.periods.now
 
 many : (s : tie.Start) → length (duties s) ≡ length s.args.services.now
-many s = length-duties s.args.services.now s.args.periods.now
+many s = length_duties s.args.services.now s.args.periods.now
 
 abbrev bytes : tie.Start → List ℕ
 bytes s = bytes_of (sa1 s.args.t s.args.engines (duties s))
@@ -43,7 +43,7 @@ returns : tie.Need-returns
 returns c =
     let s = c.before.before.before.before.before.before in
     let found = c.before.before.measure.ensures.found in
-    writes-refused _ _ (refusal-6 _ _ (duties s) _ _ found (omega (arith, many s)))
+    writes_refused _ _ (refusal_6 _ _ (duties s) _ _ found (omega (arith, many s)))
 
 -- past it no slice is broken, so that all are laid
 laid : (c : tie.Else1) → LaidOut (begun c).args.t (duties (begun c)) c.before.before.measure.result
@@ -51,7 +51,7 @@ laid c = c.before.before.measure.ensures.laid (omega (arith, many (begun c), c.i
 
 -- the bytes that the runs need, which are the table's
 abbrev needed : tie.Else1 → ℕ
-needed c = tableLength small (length (begun c).args.services.now) c.before.before.measure.result.runs
+needed c = table_length small (length (begun c).args.services.now) c.before.before.measure.result.runs
 
 size : (c : tie.Else1) → length (bytes (begun c)) ≡ needed c
 size c =
@@ -62,21 +62,21 @@ fit-table-requires : tie.Need-fit-table-requires
 fit-table-requires c κs =
     let s = begun c in
     let few = s.pre.0.paired.few in (
-      (s.pre.0.ticks-most, s.pre.1, (laid c).unit-below, omega (arith, many s, (laid c).row-most, few)),
-      (few, omega (arith, many s, (laid c).most-runs, few)),
+      (s.pre.0.ticks_most, s.pre.1, (laid c).unit_below, omega (arith, many s, (laid c).row_most, few)),
+      (few, omega (arith, many s, (laid c).most_runs_lem, few)),
     )
 
 -- what 7 and 8 come to decides
 decided :
     (c : tie.After-fit-table) → let s = begun c.before in
-    buildAt s.args.t s.args.engines (duties s) (length s.args.out.now)
-    ≡ and_then (writtenAs c.fit-table.result) (λ (k : ℕ). answer (bytes s))
+    build_at s.args.t s.args.engines (duties s) (length s.args.out.now)
+    ≡ and_then (written_as c.fit-table.result) (λ (k : ℕ). answer (bytes s))
 decided c =
     let past = c.before in
     let s = begun past in
     let measured = past.before.before.measure in
     let whole : length (duties s) ≤ measured.result.bad = omega (arith, many s, past.if1.false) in
-    past-6 s.args.t s.args.engines (duties s) _ _ measured.ensures.found _ _ whole (laid past).total (size past)
+    past_6 s.args.t s.args.engines (duties s) _ _ measured.ensures.found _ _ whole (laid past).total (size past)
     ∙ ap (λ (o : Outcome ℕ). and_then o (λ (k : ℕ). answer (bytes s))) (sym c.fit-table.ensures)
 
 -- where it is answered, the answer is what the table needs, and there is the room
@@ -87,8 +87,8 @@ told c k e =
     let past = c.before in
     let a = (begun past).args in
     let end = past.before.before.measure.result.end in
-    let answers = sym c.fit-table.ensures ∙ ap writtenAs e in
-    let z = fitted-told (a.engines * a.t) (unitsTo a.t end) (needed past) (length a.out.now) k answers in
+    let answers = sym c.fit-table.ensures ∙ ap written_as e in
+    let z = fitted_told (a.engines * a.t) (units_to a.t end) (needed past) (length a.out.now) k answers in
     (z.0, rw z.0 z.1)
 
 put-table-requires : tie.Need-put-table-requires
@@ -97,10 +97,10 @@ put-table-requires c κs =
     let past = fits.before in
     let s = begun past in
     let z = told fits _ c.before.before.fitting2.given.1 in
-    (s.pre.0, (laid past).counted, omega (arith, many s, (laid past).most-runs), omega (arith, z))
+    (s.pre.0, (laid past).counted, omega (arith, many s, (laid past).most_runs_lem), omega (arith, z))
 
 returns-2 : tie.Need-returns-2
-returns-2 c = writes-refused _ _ (decided c.before.before.before ∙ rw c.before.fitting.given.1)
+returns-2 c = writes_refused _ _ (decided c.before.before.before ∙ rw c.before.fitting.given.1)
 
 returns-3 : tie.Need-returns-3
 returns-3 c =
@@ -108,7 +108,7 @@ returns-3 c =
     let known = wrote.before.before.before in
     let fits = known.before.before in
     let k = known.fitting2.given in
-    writes-length (bytes (begun fits.before)) _ _ (decided fits ∙ rw k.1) (size fits.before ∙ sym (told fits k.0.0 k.1).0)
+    writes_length (bytes (begun fits.before)) _ _ (decided fits ∙ rw k.1) (size fits.before ∙ sym (told fits k.0.0 k.1).0)
     wrote.put-table.ensures
 
 pub build-fitting-spec : {M : Type 1} → statement M

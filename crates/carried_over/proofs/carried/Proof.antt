@@ -4,10 +4,10 @@ use Prim.Native.Nat.{◌-◌, ◌≤◌}
 use mathlib.Core.Path.{◌≡◌, sym, ap, ◌∙◌}
 use native.Mathlib.Omega.{arith}
 use Rattle.paper.specs.Rotation.{first_of}
-use Rattle.walk_laws.proofs.Page.{first-zero, onward}
+use Rattle.walk_laws.proofs.Page.{first_zero, onward}
 use Rattle.row_edges.specs.Links.{link_of}
 use Rattle.carried_over.specs.Carried.{carried_of}
-use Rattle.carried_over.proofs.Carrying.{carried_none, carried-onward}
+use Rattle.carried_over.proofs.Carrying.{carried_none, carried_onward}
 use borrow.Author.Rules.{rules}
 use Rattle.carried_over.proofs.carried.Statement.{statement}
 use Rattle.carried_over.proofs.carried.Tie as tie
@@ -20,7 +20,7 @@ abbrev decreases-loop : tie.decreases-loop
 decreases-loop edges engines count₀ first₀ count first = engines - first
 
 loop-holds : tie.Need-loop-init invariant-loop decreases-loop
-loop-holds c = (omega arith, first-zero _, sym (carried_none _), omega arith)
+loop-holds c = (omega arith, first_zero _, sym (carried_none _), omega arith)
 
 chain-of-requires : tie.Need-chain-of-requires invariant-loop decreases-loop
 chain-of-requires c κs = omega arith
@@ -44,7 +44,7 @@ loop-again c =
     let chain = c.before.before.chain-of.ensures in
     let next = onward _ start.args.engines start.requires.1
     loop.invariant.1 chain.0 (search rules) in
-    let more = carried-onward _ next chain.1 in (
+    let more = carried_onward _ next chain.1 in (
       omega (arith, next.within),
       next.begins,
       omega (arith, c.before.carried-in.ensures.0, more),

@@ -21,7 +21,7 @@ same-duty-requires : tie.Need-same-duty-requires
 same-duty-requires c κs = search rules
 
 returns : tie.Need-returns
-returns c = c.same-duty.ensures ∙ rw (c.before.before.last-edge.ensures, c.before.first_edge.ensures)
+returns c = c.same_duty.ensures ∙ rw (c.before.before.last-edge.ensures, c.before.first_edge.ensures)
 
 pub closes-spec : {M : Type 1} → statement M
 closes-spec =

@@ -5,7 +5,7 @@ use native.Mathlib.Omega.{arith}
 use Rattle.laws.proofs.Writing.{length-lent}
 use Rattle.row_edges.specs.Links.{link_of}
 use Rattle.walk_laws.proofs.Page.{onward}
-use Rattle.chain_lines.proofs.ChainLines.{Chained, chained-start, chained_more, chained-end}
+use Rattle.chain_lines.proofs.ChainLines.{Chained, chained_start, chained_more, chained_end}
 use borrow.Author.Rules.{rules}
 use borrow.Author.Rules.{rules}
 use Rattle.chain_lines.proofs.print_chains.Statement.{statement}
@@ -18,7 +18,7 @@ abbrev decreases-loop : tie.decreases-loop
 decreases-loop out₀ edges engines at₀ first₀ out at first = engines - first
 
 loop-holds : tie.Need-loop-init invariant-loop decreases-loop
-loop-holds c = chained-start _ _ _
+loop-holds c = chained_start _ _ _
 
 chain-of-requires : tie.Need-chain-of-requires invariant-loop decreases-loop
 chain-of-requires c κs = search rules
@@ -69,7 +69,7 @@ same_length c = search rules
 returns : tie.Need-returns invariant-loop decreases-loop
 returns c =
     let start = c.before.before.before in
-    chained-end (link_of start.args.edges.now) start.args.engines c.before.loop.invariant (search rules)
+    chained_end (link_of start.args.edges.now) start.args.engines c.before.loop.invariant (search rules)
 
 pub print-chains-spec : {M : Type 1} → statement M
 print-chains-spec =

@@ -5,17 +5,17 @@ use mathlib.Core.Path.{◌≡◌, sym}
 use native.Mathlib.Omega.{arith}
 use lib.ListN.{get_or}
 use borrow.Author.Count.{below_none, below_more}
-use Rattle.paper.specs.Limits.{mostEngines}
+use Rattle.paper.specs.Limits.{most_engines}
 use Rattle.paper.specs.Words.{row}
-use Rattle.dispatch_rows.proofs.Filling.{same_not, same-all}
+use Rattle.dispatch_rows.proofs.Filling.{same_not, same_all}
 use Rattle.dispatch_rows.proofs.same_rows.Statement.{statement}
 use Rattle.dispatch_rows.proofs.same_rows.Tie as tie
 
 abbrev invariant-loop : tie.invariant-loop
-invariant-loop a b i₀ i = (i ≤ mostEngines) × ((k : ℕ) → k < i → (get_or a k (row 0)).0 ≡ (get_or b k (row 0)).0)
+invariant-loop a b i₀ i = (i ≤ most_engines) × ((k : ℕ) → k < i → (get_or a k (row 0)).0 ≡ (get_or b k (row 0)).0)
 
 abbrev decreases-loop : tie.decreases-loop
-decreases-loop a b i₀ i = mostEngines - i
+decreases-loop a b i₀ i = most_engines - i
 
 loop-holds : tie.Need-loop-init invariant-loop decreases-loop
 loop-holds c = (omega arith, below_none _)
@@ -47,7 +47,7 @@ loop-again c = (omega arith, below_more _ _ c.before.before.loop.invariant.1 c.i
 returns-2 : tie.Need-returns-2 invariant-loop decreases-loop
 returns-2 c =
     let args = c.before.before.args in
-    sym (same-all args.t1 args.t2 (omega arith) (omega arith) (λ k h. c.before.loop.invariant.1 k (omega arith)))
+    sym (same_all args.t1 args.t2 (omega arith) (omega arith) (λ k h. c.before.loop.invariant.1 k (omega arith)))
 
 pub same-rows-spec : {M : Type 1} → statement M
 same-rows-spec =

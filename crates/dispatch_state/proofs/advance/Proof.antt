@@ -1,8 +1,8 @@
 -- `advance`: 20, then 21, else the state of the block after.
 -- Assumes nothing.
 use borrow.Author.Rules.{rules}
-use Rattle.paper.proofs.Calls.{hands-same}
-use Rattle.dispatch_state.proofs.Deciding.{next-foreign, next_last, next-is}
+use Rattle.paper.proofs.Calls.{hands_same}
+use Rattle.dispatch_state.proofs.Deciding.{next_foreign, next_last, next_is}
 use Rattle.dispatch_state.proofs.advance.Statement.{statement}
 use Rattle.dispatch_state.proofs.advance.Tie as tie
 
@@ -15,7 +15,7 @@ refuse-requires c κs = search rules
 returns : tie.Need-returns
 returns c =
     let s = c.before.before.before.args.s in
-    hands-same c.refuse.ensures (next-foreign _ _ s c.before.before.is-own.ensures (search rules))
+    hands_same c.refuse.ensures (next_foreign _ _ s c.before.before.is-own.ensures (search rules))
 
 refuse-requires-2 : tie.Need-refuse-requires-2
 refuse-requires-2 c κs = search rules
@@ -23,7 +23,7 @@ refuse-requires-2 c κs = search rules
 returns-2 : tie.Need-returns-2
 returns-2 c =
     let s = c.before.before.before.before.args.s in
-    hands-same c.refuse2.ensures (next_last _ _ s c.before.before.before.is-own.ensures (search rules) (search rules))
+    hands_same c.refuse2.ensures (next_last _ _ s c.before.before.before.is-own.ensures (search rules) (search rules))
 
 add-next : tie.Need-overflow-add-next
 add-next c = search rules
@@ -34,7 +34,7 @@ state-at-requires c κs = search rules
 returns-3 : tie.Need-returns-3
 returns-3 c =
     let s = c.before.before.before.before.args.s in
-    hands-same c.state-at.ensures (next-is _ _ s c.before.before.before.is-own.ensures (search rules) (search rules))
+    hands_same c.state-at.ensures (next_is _ _ s c.before.before.before.is-own.ensures (search rules) (search rules))
 
 pub advance-spec : {M : Type 1} → statement M
 advance-spec =

@@ -5,18 +5,18 @@ use mathlib.Core.Bool.{true}
 use native.Mathlib.Omega.{arith}
 use borrow.Author.Rules.{rules}
 use borrow.Author.Tests.{not-true, not-false}
-use Rattle.paper.specs.Limits.{mostEngines}
+use Rattle.paper.specs.Limits.{most_engines}
 use Rattle.paper.specs.Bytes.{within}
 use Rattle.paper.specs.Wanted.{Wanted, wanted}
-use Rattle.plan_laws.proofs.Planned.{length-duties, duty-is}
+use Rattle.plan_laws.proofs.Planned.{length_duties, duty_is}
 use Rattle.plan_laws.proofs.TakenWhen.{
   Counts,
-  engines-refused,
-  lengths-refused,
-  duties-refused,
-  counts-good,
-  range-refused,
-  ranges-taken,
+  engines_refused,
+  lengths_refused,
+  duties_refused,
+  counts_good,
+  range_refused,
+  ranges_taken,
 }
 use Rattle.duty_lists.proofs.take_duties.Statement.{statement}
 use Rattle.duty_lists.proofs.take_duties.Tie as tie
@@ -31,7 +31,7 @@ is-within-requires c κs = search rules
 returns : tie.Need-returns
 returns c =
     let start = c.before.before.before.before in
-    sym (engines-refused (asked start) (sym c.before.is_Within.ensures ∙ not-true _ c.if1.true))
+    sym (engines_refused (asked start) (sym c.before.is_Within.ensures ∙ not-true _ c.if1.true))
 
 -- what is wanted, past the first test and past the third
 abbrev asked-1 : tie.Else1 → Wanted
@@ -41,11 +41,11 @@ abbrev asked-3 : tie.Else3 → Wanted
 asked-3 c = asked-1 c.before.before.before
 
 -- past the first test the engines are in range
-engines-in : (c : tie.Else1) → within 1 mostEngines (asked-1 c).engines ≡ true
+engines-in : (c : tie.Else1) → within 1 most_engines (asked-1 c).engines ≡ true
 engines-in c = sym c.before.is_Within.ensures ∙ not-false _ c.if1.false
 
 returns-2 : tie.Need-returns-2
-returns-2 c = sym (lengths-refused (asked-1 c.before) (engines-in c.before) (search rules))
+returns-2 c = sym (lengths_refused (asked-1 c.before) (engines-in c.before) (search rules))
 
 is-within-requires-2 : tie.Need-is-within-requires-2
 is-within-requires-2 c κs = search rules
@@ -53,13 +53,13 @@ is-within-requires-2 c κs = search rules
 returns-3 : tie.Need-returns-3
 returns-3 c =
     let past_one = c.before.before.before in
-    sym (duties-refused (asked-1 past_one) (engines-in past_one) (search rules)
+    sym (duties_refused (asked-1 past_one) (engines-in past_one) (search rules)
     (sym c.before.is-within2.ensures ∙ not-true _ c.if3.true))
 
 -- past the third none of 1 to 3 applies
 past : (c : tie.Else3) → Counts (asked-3 c)
 past c =
-    counts-good (asked-3 c) (engines-in c.before.before.before) (search rules)
+    counts_good (asked-3 c) (engines-in c.before.before.before) (search rules)
     (sym c.before.is-within2.ensures ∙ not-false _ c.if3.false)
 
 bad-range-requires : tie.Need-bad-range-requires
@@ -78,17 +78,17 @@ returns-4 : tie.Need-returns-4
 returns-4 c =
     let at-bad = c.before.before.before in
     let x = asked-3 at-bad.before in
-    let bad = at-bad.bad-range in
-    let many = length-duties x.services x.periods in
-    let refuses = range-refused x (past at-bad.before) bad.result bad.ensures (omega (arith, many)) in
-    rw (refuses, duty-is x.services x.periods bad.result (search rules)) c.range-fault.ensures
+    let bad = at-bad.bad_range_lem in
+    let many = length_duties x.services x.periods in
+    let refuses = range_refused x (past at-bad.before) bad.result bad.ensures (omega (arith, many)) in
+    rw (refuses, duty_is x.services x.periods bad.result (search rules)) c.range-fault.ensures
 
 returns-5 : tie.Need-returns-5
 returns-5 c =
     let at-bad = c.before in
     let x = asked-3 at-bad.before in
-    let many = length-duties x.services x.periods in
-    sym (ranges-taken x (past at-bad.before) at-bad.bad-range.result at-bad.bad-range.ensures (omega (arith, many)))
+    let many = length_duties x.services x.periods in
+    sym (ranges_taken x (past at-bad.before) at-bad.bad_range_lem.result at-bad.bad_range_lem.ensures (omega (arith, many)))
 
 pub take-duties-spec : {M : Type 1} → statement M
 take-duties-spec =

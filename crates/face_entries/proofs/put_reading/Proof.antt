@@ -2,7 +2,7 @@
 -- Assumes nothing.
 use lib.ListN.{length-set}
 use native.Mathlib.Omega.{arith}
-use Rattle.face_entries.proofs.Stored.{stored-four}
+use Rattle.face_entries.proofs.Stored.{stored_four}
 use Rattle.face_entries.proofs.put_reading.Statement.{statement}
 use Rattle.face_entries.proofs.put_reading.Tie as tie
 
@@ -21,7 +21,7 @@ same_length c = simp length-set
 returns : tie.Need-returns
 returns c =
     let start = c.before.before.before.before in
-    stored-four _ _ _ _ start.args.answer.now (omega arith)
+    stored_four _ _ _ _ start.args.answer.now (omega arith)
 
 pub put-reading-spec : {M : Type 1} → statement M
 put-reading-spec =

@@ -3,7 +3,7 @@
 use native.Mathlib.Omega.{arith}
 use lib.ListN.{length-set}
 use borrow.Author.Rules.{rules}
-use Rattle.face_entries.proofs.Stored.{stored-two}
+use Rattle.face_entries.proofs.Stored.{stored_two}
 use Rattle.face_entries.proofs.put_reply.Statement.{statement}
 use Rattle.face_entries.proofs.put_reply.Tie as tie
 
@@ -11,7 +11,7 @@ slice-write-answer-2 : tie.Need-slice-write-answer-2
 slice-write-answer-2 c = simp length-set (omega arith)
 
 returns : tie.Need-returns
-returns c = rw c.held-entry.ensures (stored-two _ _ c.before.before.before.args.answer.now (search rules))
+returns c = rw c.held-entry.ensures (stored_two _ _ c.before.before.before.args.answer.now (search rules))
 
 pub put-reply-spec : {M : Type 1} → statement M
 put-reply-spec =

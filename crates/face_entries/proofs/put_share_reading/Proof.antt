@@ -2,7 +2,7 @@
 -- Assumes nothing.
 use lib.ListN.{length-set}
 use native.Mathlib.Omega.{arith}
-use Rattle.face_entries.proofs.Stored.{stored-three}
+use Rattle.face_entries.proofs.Stored.{stored_three}
 use Rattle.face_entries.proofs.put_share_reading.Statement.{statement}
 use Rattle.face_entries.proofs.put_share_reading.Tie as tie
 
@@ -16,7 +16,7 @@ same_length : tie.Need-same-length
 same_length c = simp length-set
 
 returns : tie.Need-returns
-returns c = stored-three _ _ _ c.before.before.args.answer.now (omega arith)
+returns c = stored_three _ _ _ c.before.before.args.answer.now (omega arith)
 
 pub put-share-reading-spec : {M : Type 1} → statement M
 put-share-reading-spec =

@@ -10,27 +10,27 @@ use lib.ListN.{length, drop, get_or, length-set, length-map, drop_of_length-le, 
 use lib.Seq.{drop-cons}
 use Rattle.laws.proofs.Writing.{Wrote, stored, done, next}
 use Rattle.paper.specs.declared.Row.{Row}
-use Rattle.paper.specs.Limits.{mostEngines, stateRoom}
-use Rattle.paper.specs.Words.{row, rowNumbers}
+use Rattle.paper.specs.Limits.{most_engines, state_room}
+use Rattle.paper.specs.Words.{row, row_numbers}
 use Rattle.face_entries.proofs.Opened.{opened, opened-over}
 use Rattle.face_entries.proofs.put_state.Statement.{statement}
 use Rattle.face_entries.proofs.put_state.Tie as tie
 
 abbrev invariant-loop : tie.invariant-loop
 invariant-loop state₀ block rows e₀ state e =
-    (e ≤ mostEngines) × (length rows ≡ mostEngines) × (stateRoom ≤ length state₀) × (length state ≡ length state₀)
-    × Wrote (get_or state₀ 0 0 ∷ rowNumbers rows) state₀ (drop e (rowNumbers rows)) state (e + 1)
+    (e ≤ most_engines) × (length rows ≡ most_engines) × (state_room ≤ length state₀) × (length state ≡ length state₀)
+    × Wrote (get_or state₀ 0 0 ∷ row_numbers rows) state₀ (drop e (row_numbers rows)) state (e + 1)
 
 abbrev decreases-loop : tie.decreases-loop
-decreases-loop state₀ block rows e₀ state e = mostEngines - e
+decreases-loop state₀ block rows e₀ state e = most_engines - e
 
 -- what is left of the numbers, by the row that was read, and at the end
 numbers-left : (rs : List Row) (e : ℕ) → e < length rs
-    → drop e (rowNumbers rs) ≡ (get_or rs e (row 0)).0 ∷ drop (e + 1) (rowNumbers rs)
-numbers-left rs e h = rw (add-one, ← get_or-map (λ r. r.0) rs e (row 0)) (drop-cons (rowNumbers rs) e 0 (rw length-map h))
+    → drop e (row_numbers rs) ≡ (get_or rs e (row 0)).0 ∷ drop (e + 1) (row_numbers rs)
+numbers-left rs e h = rw (add-one, ← get_or-map (λ r. r.0) rs e (row 0)) (drop-cons (row_numbers rs) e 0 (rw length-map h))
 
-numbers-none : (rs : List Row) (e : ℕ) → length rs ≤ e → drop e (rowNumbers rs) ≡ []
-numbers-none rs e h = drop_of_length-le (rowNumbers rs) {i = e} (rw length-map h)
+numbers-none : (rs : List Row) (e : ℕ) → length rs ≤ e → drop e (row_numbers rs) ≡ []
+numbers-none rs e h = drop_of_length-le (row_numbers rs) {i = e} (rw length-map h)
 
 loop-holds : tie.Need-loop-init invariant-loop decreases-loop
 loop-holds c = (omega arith, search rules, simp length-set (omega arith), refl, opened _ _ (simp length-set (omega arith)))
@@ -45,7 +45,7 @@ loop-again c =
       omega arith,
       omega arith,
       length-set loop.state (loop.e + 1) number ∙ loop.invariant.3,
-      stored _ _ (drop (loop.e + 1) (rowNumbers rows)) _ number (loop.e + 1) (next here loop.invariant.4) (omega arith),
+      stored _ _ (drop (loop.e + 1) (row_numbers rows)) _ number (loop.e + 1) (next here loop.invariant.4) (omega arith),
     )
 
 same_length : tie.Need-same-length invariant-loop decreases-loop
@@ -59,7 +59,7 @@ returns c =
     let end = c.before.loop in
     let none = numbers-none args.t3 end.e (omega arith) in
     done _ _ end.state (end.e + 1) (next none end.invariant.4)
-    ∙ opened-over args.block (rowNumbers args.t3) args.state.now (omega arith)
+    ∙ opened-over args.block (row_numbers args.t3) args.state.now (omega arith)
 
 pub put-state-spec : {M : Type 1} → statement M
 put-state-spec =

@@ -2,12 +2,12 @@
 -- Assumes nothing.
 use mathlib.Core.Path.{◌≡◌, refl}
 use Rattle.paper.specs.declared.Fault.{Fault}
-use Rattle.paper.specs.Outcome.{refusalOf}
+use Rattle.paper.specs.Outcome.{refusal_of}
 use Rattle.judge.proofs.refusal_of.Statement.{statement}
 use Rattle.judge.proofs.refusal_of.Tie as tie
 
 -- a fault that is known to be another has its number and place
-told : {f g : Fault} → f ≡ g → ((refusalOf g).number ≡ (refusalOf f).number) × ((refusalOf g).place ≡ (refusalOf f).place)
+told : {f g : Fault} → f ≡ g → ((refusal_of g).number ≡ (refusal_of f).number) × ((refusal_of g).place ≡ (refusal_of f).place)
 told e = rw e (refl, refl)
 
 pub refusal-of-spec : {M : Type 1} → statement M

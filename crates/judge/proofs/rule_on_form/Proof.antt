@@ -2,10 +2,10 @@
 -- bytes.
 -- Assumes nothing.
 use mathlib.Core.Path.{◌≡◌, sym, ap, ◌∙◌}
-use Rattle.paper.specs.Outcome.{judgedAs}
-use Rattle.table_tally.specs.Tally.{edgesOf}
-use Rattle.judge.proofs.Ruled.{fault-ruled}
-use Rattle.judge.proofs.Accepted.{duties-refused, runs-decide, table-one, accepted-as}
+use Rattle.paper.specs.Outcome.{judged_as}
+use Rattle.table_tally.specs.Tally.{edges_of}
+use Rattle.judge.proofs.Ruled.{fault_ruled}
+use Rattle.judge.proofs.Accepted.{duties_refused, runs_decide, table_one, accepted_as}
 use borrow.Author.Rules.{rules}
 use Rattle.judge.proofs.rule_on_form.Statement.{statement}
 use Rattle.judge.proofs.rule_on_form.Tie as tie
@@ -14,23 +14,23 @@ returns : tie.Need-returns
 returns c =
     let start = c.before.before.before.before.before in
     let judge-duties = c.before.before.before.judge-duties in
-    let bad = sym judge-duties.ensures ∙ ap judgedAs c.before.duties.given.1 in
-    fault-ruled (duties-refused start.requires.0 bad)
+    let bad = sym judge-duties.ensures ∙ ap judged_as c.before.duties.given.1 in
+    fault_ruled (duties_refused start.requires.0 bad)
 
 returns-2 : tie.Need-returns-2
 returns-2 c =
     let start = c.before.before.before.before.before.before in
     let judge-duties = c.before.before.before.before.judge-duties in
-    let met = sym judge-duties.ensures ∙ ap judgedAs c.before.before.enum_told.given.1 in
-    let told = c.rule-on-runs.ensures.told ∙ sym (runs-decide start.requires.0 met) in
+    let met = sym judge-duties.ensures ∙ ap judged_as c.before.before.enum_told.given.1 in
+    let told = c.rule-on-runs.ensures.told ∙ sym (runs_decide start.requires.0 met) in
     record {
       told = told;
       ready = λ rd q.
-          let good = accepted-as _ rd (sym told ∙ ap judgedAs q) in
+          let good = accepted_as _ rd (sym told ∙ ap judged_as q) in
           record {
             formed = good.0;
             meets = good.1;
-            edges_are = c.rule-on-runs.ensures.edged rd q ∙ ap edgesOf (table-one _ start.args.rd rd start.requires.0 good.0);
+            edges_are = c.rule-on-runs.ensures.edged rd q ∙ ap edges_of (table_one _ start.args.rd rd start.requires.0 good.0);
           };
     }
 

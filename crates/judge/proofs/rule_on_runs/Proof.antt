@@ -7,14 +7,14 @@ use Rattle.paper.specs.declared.Reading.{Reading}
 use Rattle.paper.specs.declared.Judged.{Judged}
 use Rattle.paper.specs.declared.Judged.TheVariants.{Accepted}
 use Rattle.paper.specs.Words.{Table}
-use Rattle.paper.specs.Outcome.{answer, and_then, judgedAs}
+use Rattle.paper.specs.Outcome.{answer, and_then, judged_as}
 use Rattle.paper.specs.Rules.{reading_of}
-use Rattle.paper.proofs.Outcomes.{then-refused, then-answer}
+use Rattle.paper.proofs.Outcomes.{then_refused, then_answer}
 use Rattle.record_read.specs.Formed.{table_of}
 use Rattle.record_read.proofs.Table.{table_runs}
-use Rattle.judge_runs.specs.Halves.{judgeRows}
-use Rattle.judge_runs.proofs.Halves.{RowsPass, rows-refuse, rows_pass}
-use Rattle.judge.proofs.Ruled.{fault-runs-ruled}
+use Rattle.judge_runs.specs.Halves.{judge_rows}
+use Rattle.judge_runs.proofs.Halves.{RowsPass, rows_refuse, rows_pass}
+use Rattle.judge.proofs.Ruled.{fault_runs_ruled}
 use Rattle.judge.proofs.rule_on_runs.Statement.{statement}
 use Rattle.judge.proofs.rule_on_runs.Tie as tie
 
@@ -23,10 +23,10 @@ abbrev table : tie.Start → Table
 table s = table_of s.args.b.now s.args.rd
 
 -- the rules of the rows are met
-met : (t : Table) {r : Judged} {good : Reading} → judgedAs r ≡ and_then (judgeRows t) (λ s. answer (reading_of s)) → r ≡ Accepted good
+met : (t : Table) {r : Judged} {good : Reading} → judged_as r ≡ and_then (judge_rows t) (λ s. answer (reading_of s)) → r ≡ Accepted good
     → RowsPass t
 met t {r} {good} told e =
-    let pass = then-answer (judgeRows t) (λ s. answer (reading_of s)) good (sym told ∙ ap judgedAs e) in
+    let pass = then_answer (judge_rows t) (λ s. answer (reading_of s)) good (sym told ∙ ap judged_as e) in
     rows_pass t pass.0 pass.1
 
 rule-on-service-requires : tie.Need-rule-on-service-requires
@@ -39,8 +39,8 @@ rule-on-service-requires c κs =
 returns : tie.Need-returns
 returns c =
     let t = table c.before.before.before.before.before in
-    let bad = sym c.before.before.before.judge-rows.ensures ∙ ap judgedAs c.before.rows.given.1 in
-    fault-runs-ruled (rows-refuse t _ _ (then-refused (judgeRows t) reading_of _ _ bad))
+    let bad = sym c.before.before.before.judge-rows.ensures ∙ ap judged_as c.before.rows.given.1 in
+    fault_runs_ruled (rows_refuse t _ _ (then_refused (judge_rows t) reading_of _ _ bad))
 
 returns-2 : tie.Need-returns-2
 returns-2 c =

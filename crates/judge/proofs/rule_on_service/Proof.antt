@@ -3,8 +3,8 @@
 use Prim.Native.Nat.{◌+◌}
 use native.Mathlib.Omega.{arith}
 use borrow.Author.Rules.{rules}
-use Rattle.laws.proofs.SortedLists.{blank-zeros}
-use Rattle.paper.specs.Limits.{mostDuties, mostRuns}
+use Rattle.laws.proofs.SortedLists.{blank_zeros}
+use Rattle.paper.specs.Limits.{most_duties, most_runs}
 use Rattle.judge.proofs.rule_on_service.Statement.{statement}
 use Rattle.judge.proofs.rule_on_service.Tie as tie
 
@@ -14,9 +14,9 @@ judge-service-requires c κs =
     let formed = start.requires.0 in (
       formed,
       c.before.before.before.tally.ensures.0,
-      blank-zeros start.args.rd.duties mostDuties formed.duties-most,
-      blank-zeros (start.args.rd.runs + start.args.rd.duties) (mostRuns + mostDuties)
-          (omega (arith, formed.runs-most, formed.duties-most)),
+      blank_zeros start.args.rd.duties most_duties formed.duties_most,
+      blank_zeros (start.args.rd.runs + start.args.rd.duties) (most_runs + most_duties)
+          (omega (arith, formed.runs_most, formed.duties_most)),
       start.requires.2,
     )
 

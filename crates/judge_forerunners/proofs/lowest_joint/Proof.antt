@@ -2,10 +2,10 @@
 -- Assumes nothing.
 use mathlib.Core.Path.{sym, ◌∙◌}
 use native.Mathlib.Omega.{arith}
-use Rattle.laws.proofs.Search.{compare-less}
+use Rattle.laws.proofs.Search.{compare_less}
 use Rattle.record_read.specs.Formed.{table_of}
 use Rattle.record_read.proofs.Table.{table_runs}
-use Rattle.table_laws.proofs.Forerunners.{joining, wrongly, not-joining, found-ordered, found-apart, lowest-joining}
+use Rattle.table_laws.proofs.Forerunners.{joining, wrongly, not_joining, found_ordered, found_apart, lowest-joining}
 use Rattle.judge_forerunners.proofs.lowest_joint.Statement.{statement}
 use Rattle.judge_forerunners.proofs.lowest_joint.Tie as tie
 
@@ -15,14 +15,14 @@ returns c =
     let t = table_of start.args.b.now start.args.rd in
     let all = table_runs start.args.b.now start.args.rd in
     c.lowest-amiss.ensures
-    ∙ sym (lowest-joining t.runs (found-ordered t (omega (arith, all, start.requires.2)))
-    (found-apart t.runs (omega (arith, all, start.requires.3))))
+    ∙ sym (lowest-joining t.runs (found_ordered t (omega (arith, all, start.requires.2)))
+    (found_apart t.runs (omega (arith, all, start.requires.3))))
 
 lowest-amiss-requires : tie.Need-lowest-amiss-requires
 lowest-amiss-requires c κs =
     let start = c.before in
     let xs = (table_of start.args.b.now start.args.rd).runs in
-    (start.requires.0, compare-less (joining xs) (wrongly xs) (not-joining xs) start.requires.1)
+    (start.requires.0, compare_less (joining xs) (wrongly xs) (not_joining xs) start.requires.1)
 
 pub lowest-joint-spec : {M : Type 1} → statement M
 lowest-joint-spec = tie.close (tie.spec lowest-amiss-requires returns)

@@ -2,7 +2,7 @@
 -- Assumes nothing.
 use native.Mathlib.Omega.{arith}
 use borrow.Author.Rules.{rules}
-use Rattle.laws.proofs.SortedLists.{spot-room, pointer-few}
+use Rattle.laws.proofs.SortedLists.{spot_room, pointer_few}
 use Rattle.record_read.proofs.Table.{table_runs}
 use Rattle.table_laws.proofs.SortedRuns.{twice-told}
 use Rattle.judge_lists.proofs.is_twice.Statement.{statement}
@@ -20,7 +20,7 @@ pointer-at-requires : tie.Need-pointer-at-requires
 pointer-at-requires c κs =
     let start = c.before.before.before.before in
     let B = start.requires.3 in
-    spot-room B.sorted B.owned B.below.spot
+    spot_room B.sorted B.owned B.below.spot
 
 add-starts-before : tie.Need-overflow-add-starts-before
 add-starts-before c = search rules
@@ -29,7 +29,7 @@ starts-before-requires : tie.Need-starts-before-requires
 starts-before-requires c κs =
     let start = c.before.before.before.before.before.before in
     let B = start.requires.3 in
-    let few = pointer-few B.sorted B.owned B.below.spot in
+    let few = pointer_few B.sorted B.owned B.below.spot in
     let all = table_runs start.args.b.now start.args.rd in
     (start.requires.0, omega (arith, c.before.pointer-at.ensures, few, B.few, all))
 

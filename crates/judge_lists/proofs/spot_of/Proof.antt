@@ -1,5 +1,5 @@
--- `spot_of`: as long as the pointer leads to a run that starts before run k, the search goes there (`step-on`); where it does not, the spot
--- is run k's (`step-none`). With every step the spot's first unit grows, and it stays below run k's.
+-- `spot_of`: as long as the pointer leads to a run that starts before run k, the search goes there (`step_on`); where it does not, the spot
+-- is run k's (`step_none`). With every step the spot's first unit grows, and it stays below run k's.
 -- Assumes nothing.
 use Prim.Native.Nat.{◌+◌, ◌-◌, ◌<◌}
 use mathlib.Core.Path.{◌≡◌, sym, ◌∙◌}
@@ -7,10 +7,10 @@ use mathlib.Core.Bool.{Bool}
 use native.Mathlib.Omega.{arith}
 use lib.ListN.{length, get_or}
 use borrow.Author.Rules.{rules}
-use Rattle.laws.proofs.SortedLists.{Below, rank, spot-room, pointer-few}
+use Rattle.laws.proofs.SortedLists.{Below, rank, spot_room, pointer_few}
 use Rattle.paper.specs.Words.{run_at}
 use Rattle.record_read.specs.Formed.{table_of}
-use Rattle.table_laws.proofs.SortedRuns.{kept, startsBefore, step-on, step-none}
+use Rattle.table_laws.proofs.SortedRuns.{kept, starts_before, step_on, step_none}
 use Rattle.judge_lists.proofs.Listed.{in_list, owned}
 use Rattle.judge_lists.proofs.spot_of.Statement.{statement}
 use Rattle.judge_lists.proofs.spot_of.Tie as tie
@@ -38,12 +38,12 @@ known s =
 pointer-at-requires : tie.Need-pointer-at-requires invariant-loop decreases-loop
 pointer-at-requires c κs =
     let start = c.before.before.before.before in
-    spot-room start.requires.2 (known start).1 c.loop.invariant.spot
+    spot_room start.requires.2 (known start).1 c.loop.invariant.spot
 
 starts-before-requires : tie.Need-starts-before-requires invariant-loop decreases-loop
 starts-before-requires c κs =
     let start = c.before.before.before.before.before in
-    let few = pointer-few start.requires.2 (known start).1 c.before.loop.invariant.spot in
+    let few = pointer_few start.requires.2 (known start).1 c.before.loop.invariant.spot in
     (start.requires.0, omega (arith, c.pointer-at.ensures, few, start.requires.1))
 
 pointer-at-requires-2 : tie.Need-pointer-at-requires-2 invariant-loop decreases-loop
@@ -53,7 +53,7 @@ pointer-at-requires-2 c κs = pointer-at-requires c.before.before.before κs
 led : (c : tie.After-starts-before invariant-loop decreases-loop) {v : Bool} → c.starts-before.result ≡ v →
     let args = c.before.before.before.before.before.before.args in
     let xs = (table_of args.b.now args.rd).runs in
-    startsBefore xs (get_or args.pointers.now c.before.before.loop.spot 0) (run_at xs args.k).first ≡ v
+    starts_before xs (get_or args.pointers.now c.before.before.loop.spot 0) (run_at xs args.k).first ≡ v
 led c t = rw (← c.before.before.before.run_of.ensures.0, ← c.before.pointer-at.ensures) (sym c.starts-before.ensures ∙ t)
 
 -- what the search's step comes to
@@ -66,7 +66,7 @@ on : (c : tie.Then1 invariant-loop decreases-loop) →
 on c =
     let start = c.before.before.before.before.before.before.before in
     let xs = (table_of start.args.b.now start.args.rd).runs in
-    step-on xs start.requires.2 (known start).0 (known start).1 c.before.before.before.loop.invariant (led c.before c.if1.true)
+    step_on xs start.requires.2 (known start).0 (known start).1 c.before.before.before.loop.invariant (led c.before c.if1.true)
 
 sub-spot : tie.Need-overflow-sub-spot invariant-loop decreases-loop
 sub-spot c = rw c.pointer-at2.ensures (on c.before).0
@@ -81,7 +81,7 @@ returns : tie.Need-returns invariant-loop decreases-loop
 returns c =
     let start = c.before.before.before.before.before.before.before in
     let xs = (table_of start.args.b.now start.args.rd).runs in
-    step-none xs start.requires.2 (known start).0 (known start).1 c.before.before.before.loop.invariant (led c.before c.if1.false)
+    step_none xs start.requires.2 (known start).0 (known start).1 c.before.before.before.loop.invariant (led c.before c.if1.false)
 
 pub spot-of-spec : {M : Type 1} → statement M
 spot-of-spec =

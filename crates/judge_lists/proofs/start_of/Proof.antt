@@ -6,12 +6,12 @@ use mathlib.Core.Path.{◌≡◌, sym, ap, ◌∙◌}
 use mathlib.Core.Bool.{true}
 use lib.ListN.{get_or}
 use borrow.Author.Rules.{rules}
-use Rattle.laws.proofs.SortedLists.{below-front, recent-few}
+use Rattle.laws.proofs.SortedLists.{below_front, recent_few}
 use Rattle.paper.specs.declared.Run.{Run}
 use Rattle.paper.specs.Words.{run_at}
 use Rattle.record_read.specs.Formed.{table_of}
 use Rattle.record_read.proofs.Table.{table_runs}
-use Rattle.table_laws.proofs.SortedRuns.{kept, startsBefore, before-some, begin-last}
+use Rattle.table_laws.proofs.SortedRuns.{kept, starts_before, before_some, begin_last}
 use Rattle.judge_lists.proofs.Listed.{in_list, owned}
 use Rattle.judge_lists.proofs.start_of.Statement.{statement}
 use Rattle.judge_lists.proofs.start_of.Tie as tie
@@ -29,13 +29,13 @@ starts-before-requires : tie.Need-starts-before-requires
 starts-before-requires c κs =
     let start = c.before.before.before.before.before in
     let run_of = c.before.before.run_of in
-    (start.requires.0, omega (arith, c.pointer-at.ensures, recent-few start.requires.2 run_of.ensures.1.duty-below))
+    (start.requires.0, omega (arith, c.pointer-at.ensures, recent_few start.requires.2 run_of.ensures.1.duty_below))
 
 -- the last run starts before run k
 led : (c : tie.Then1) →
     let start = c.before.before.before.before.before.before.before in
     let xs = (table_of start.args.b.now start.args.rd).runs in
-    startsBefore xs (get_or start.args.last.now (run_at xs start.args.k).duty 0) (run_at xs start.args.k).first ≡ true
+    starts_before xs (get_or start.args.last.now (run_at xs start.args.k).duty 0) (run_at xs start.args.k).first ≡ true
 led c =
     rw (← c.before.before.before.before.run_of.ensures.0, ← c.before.before.pointer-at.ensures)
     (sym c.before.starts-before.ensures ∙ c.if1.true)
@@ -44,14 +44,14 @@ sub-result : tie.Need-overflow-sub-result
 sub-result c =
     let start = c.before.before.before.before.before.before.before in
     let xs = (table_of start.args.b.now start.args.rd).runs in
-    before-some xs _ _ (sym c.before.starts-before.ensures ∙ c.if1.true)
+    before_some xs _ _ (sym c.before.starts-before.ensures ∙ c.if1.true)
 
 returns : tie.Need-returns
 returns c =
     let start = c.before.before.before.before.before.before.before in
     let xs = (table_of start.args.b.now start.args.rd).runs in
     rw (c.before.before.pointer-at.ensures, c.before.before.before.before.run_of.ensures.0)
-    (begin-last xs start.requires.2 (in_list start.args.b.now start.args.rd start.args.k start.requires.1)
+    (begin_last xs start.requires.2 (in_list start.args.b.now start.args.rd start.args.k start.requires.1)
     (owned start.requires.0 start.args.k start.requires.1) (led c))
 
 cast-result : tie.Need-overflow-cast-result
@@ -68,7 +68,7 @@ returns-2 c =
     let start = c.before.before.before.before.before.before.before.before.before in
     let run_of = c.before.before.before.before.before.before.run_of in
     let xs = (table_of start.args.b.now start.args.rd).runs in
-    below-front (kept xs) start.args.k (start.args.rd.runs + run_of.result.duty)
+    below_front (kept xs) start.args.k (start.args.rd.runs + run_of.result.duty)
     (omega (arith, table_runs start.args.b.now start.args.rd, ap (λ (x : Run). x.duty) run_of.ensures.0))
 
 pub start-of-spec : {M : Type 1} → statement M

@@ -4,7 +4,7 @@ use native.Mathlib.Omega.{arith}
 use borrow.Author.Rules.{rules}
 use Rattle.record_read.specs.Formed.{table_of}
 use Rattle.record_read.proofs.Table.{table_runs}
-use Rattle.table_laws.proofs.SortedRuns.{stops-front, stops-run}
+use Rattle.table_laws.proofs.SortedRuns.{stops_front, stops_run}
 use Rattle.judge_lists.proofs.stops_after.Statement.{statement}
 use Rattle.judge_lists.proofs.stops_after.Tie as tie
 
@@ -12,14 +12,14 @@ returns : tie.Need-returns
 returns c =
     let start = c.before.before.before in
     let xs = (table_of start.args.b.now start.args.rd).runs in
-    rw (stops-front xs start.args.spot start.args.unit (omega (arith, table_runs start.args.b.now start.args.rd)))
+    rw (stops_front xs start.args.spot start.args.unit (omega (arith, table_runs start.args.b.now start.args.rd)))
 
 returns-2 : tie.Need-returns-2
 returns-2 c =
     let start = c.before.before.before.before.before in
     let xs = (table_of start.args.b.now start.args.rd).runs in
     rw (
-      stops-run xs start.args.spot start.args.unit (omega (arith, table_runs start.args.b.now start.args.rd)),
+      stops_run xs start.args.spot start.args.unit (omega (arith, table_runs start.args.b.now start.args.rd)),
       ← c.before.run_of.ensures.0,
     )
 

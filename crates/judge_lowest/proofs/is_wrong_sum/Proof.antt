@@ -3,8 +3,8 @@
 use native.Mathlib.Omega.{arith}
 use borrow.Author.Rules.{rules}
 use Rattle.record_read.specs.Formed.{table_of}
-use Rattle.record_read.proofs.Table.{table-ticks}
-use Rattle.table_tally.proofs.Tallied.{units-told}
+use Rattle.record_read.proofs.Table.{table_ticks}
+use Rattle.table_tally.proofs.Tallied.{units_told}
 use Rattle.judge_lowest.proofs.is_wrong_sum.Statement.{statement}
 use Rattle.judge_lowest.proofs.is_wrong_sum.Tie as tie
 
@@ -13,9 +13,9 @@ returns c =
     let start = c.before.before.before.before in
     rw (
       start.requires.1.0,
-      units-told (table_of start.args.b.now start.args.rd) start.args.i
-          (omega (arith, start.requires.1.1, start.requires.0.duties-most)),
-      table-ticks _ _ start.requires.0,
+      units_told (table_of start.args.b.now start.args.rd) start.args.i
+          (omega (arith, start.requires.1.1, start.requires.0.duties_most)),
+      table_ticks _ _ start.requires.0,
       c.slice_of.ensures.0,
       c.before.duty-of.ensures.0,
     )

@@ -12,8 +12,8 @@ add-stop c = search rules
 returns : tie.Need-returns
 returns c =
     let start = c.before.before.before.before.before.before.before.before in
-    let one-row = eq-eqb start.args.x.row.0 start.args.y.row.0 (search rules) in
-    rw (wrong-told start.args.x start.args.y start.requires.1, one-row)
+    let one_row = eq-eqb start.args.x.row.0 start.args.y.row.0 (search rules) in
+    rw (wrong-told start.args.x start.args.y start.requires.1, one_row)
 
 returns-2 : tie.Need-returns-2
 returns-2 c =

@@ -9,9 +9,9 @@ use Rattle.paper.specs.Words.{Table}
 use Rattle.paper.specs.Outcome.{Outcome, answer}
 use Rattle.paper.specs.Rules.{overlaps, joins, lowest, fault}
 use Rattle.record_read.specs.Formed.{table_of}
-use Rattle.record_read.proofs.Table.{table_runs, table-reading}
-use Rattle.judge_runs.specs.Halves.{judgeRows}
-use Rattle.judge_runs.proofs.Found.{found_none, found-one, refuses}
+use Rattle.record_read.proofs.Table.{table_runs, table_reading}
+use Rattle.judge_runs.specs.Halves.{judge_rows}
+use Rattle.judge_runs.proofs.Found.{found_none, found_one, refuses}
 use Rattle.judge_runs.proofs.search_rows.Statement.{statement}
 use Rattle.judge_runs.proofs.search_rows.Tie as tie
 
@@ -31,7 +31,7 @@ from14 t = fault 14 (lowest overlaps t.runs) (length t.runs) (from15 t)
 
 -- the rules before them are met
 abbrev Left : (Table → Outcome Table) → tie.Start → Type 0
-Left rest s = judgeRows (table s) ≡ rest (table s)
+Left rest s = judge_rows (table s) ≡ rest (table s)
 
 bad-order-requires : tie.Need-bad-order-requires
 bad-order-requires c κs = search rules
@@ -39,7 +39,7 @@ bad-order-requires c κs = search rules
 returns : tie.Need-returns
 returns c =
     let start = c.before.before.before.before in
-    refuses (found-one 13 _ c.before.bad-order.ensures (runs start) (omega arith))
+    refuses (found_one 13 _ c.before.bad-order.ensures (runs start) (omega arith))
 
 -- the runs are in order
 ordered : (c : tie.Else1) → Left from14 c.before.before.before.before
@@ -53,7 +53,7 @@ lowest-overlap-requires c κs = search rules
 returns-2 : tie.Need-returns-2
 returns-2 c =
     let start = c.before.before.before.before.before.before in
-    refuses (ordered c.before.before ∙ found-one 14 _ c.before.lowest-overlap.ensures (runs start) (omega arith))
+    refuses (ordered c.before.before ∙ found_one 14 _ c.before.lowest-overlap.ensures (runs start) (omega arith))
 
 -- no two runs of a row share a unit
 apart : (c : tie.Else2) → Left from15 c.before.before.before.before.before.before
@@ -67,14 +67,14 @@ lowest-joint-requires c κs = search rules
 returns-3 : tie.Need-returns-3
 returns-3 c =
     let start = c.before.before.before.before.before.before.before.before in
-    refuses (apart c.before.before ∙ found-one 15 _ c.before.lowest-joint.ensures (runs start) (omega arith))
+    refuses (apart c.before.before ∙ found_one 15 _ c.before.lowest-joint.ensures (runs start) (omega arith))
 
 returns-4 : tie.Need-returns-4
 returns-4 c =
     let start = c.before.before.before.before.before.before.before.before in
     rw (
       apart c.before.before ∙ found_none 15 _ c.before.lowest-joint.ensures (runs start) (omega arith),
-      table-reading _ _ start.requires.0,
+      table_reading _ _ start.requires.0,
     )
 
 pub search-rows-spec : {M : Type 1} → statement M

@@ -6,18 +6,18 @@ use mathlib.Core.Path.{◌≡◌, refl, sym, ◌∙◌}
 use native.Mathlib.Omega.{arith}
 use lib.ListN.{length, length-set}
 use borrow.Author.Rules.{rules}
-use Rattle.laws.proofs.Search.{Seeking, seek-none, seek-more, seek_hit, seek-miss}
-use Rattle.laws.proofs.SortedLists.{Sorted, Recent, sorted_none, sorted_more, spot-room, recent-none, recent-more}
+use Rattle.laws.proofs.Search.{Seeking, seek_none, seek_more, seek_hit, seek_miss}
+use Rattle.laws.proofs.SortedLists.{Sorted, Recent, sorted_none, sorted_more, spot_room, recent_none, recent_more}
 use Rattle.record_read.specs.Formed.{table_of}
 use Rattle.record_read.proofs.Table.{table_runs}
-use Rattle.table_laws.proofs.SortedRuns.{kept, twiceAt, distinct}
+use Rattle.table_laws.proofs.SortedRuns.{kept, twice_at, distinct}
 use Rattle.judge_lists.proofs.Listed.{in_list, owned, rowed}
 use Rattle.judge_twice.proofs.lowest_twice.Statement.{statement}
 use Rattle.judge_twice.proofs.lowest_twice.Tie as tie
 
 abbrev invariant-loop : tie.invariant-loop
 invariant-loop b rd last₀ pointers₀ n k₀ last pointers k =
-    Seeking (twiceAt (table_of b rd).runs) (length (table_of b rd).runs) k
+    Seeking (twice_at (table_of b rd).runs) (length (table_of b rd).runs) k
     × Recent (kept (table_of b rd).runs) rd.duties k last
     × Sorted (kept (table_of b rd).runs) rd.duties k pointers
     × (length last ≡ length last₀)
@@ -35,8 +35,8 @@ loop-holds c =
     let xs = (table_of start.args.b.now start.args.rd).runs in
     let room : length xs + start.args.rd.duties ≡ start.args.rd.runs + start.args.rd.duties =
     omega (arith, table_runs start.args.b.now start.args.rd) in (
-      seek-none _ _,
-      recent-none (kept xs) start.args.rd.duties start.args.last.now start.requires.2,
+      seek_none _ _,
+      recent_none (kept xs) start.args.rd.duties start.args.last.now start.requires.2,
       sorted_none (kept xs) start.args.rd.duties start.args.pointers.now (rw room start.requires.3),
       refl,
       refl,
@@ -81,15 +81,15 @@ insert-requires : tie.Need-insert-requires invariant-loop decreases-loop
 insert-requires c κs =
     let at-loop = c.before.before.before.before.before.before.before.before.before.before.before in
     let spot = c.before.before.before.before.spot_of_lem.ensures in (
-      omega (arith, at-loop.before.before.before.before.before.requires.0.runs-most),
+      omega (arith, at-loop.before.before.before.before.before.requires.0.runs_most),
       omega (arith, spot.few, spot.sorted.room),
-      spot-room spot.sorted spot.owned spot.below.spot,
+      spot_room spot.sorted spot.owned spot.below.spot,
     )
 
 pointer-to-requires : tie.Need-pointer-to-requires invariant-loop decreases-loop
 pointer-to-requires c κs =
     let in-loop = c.before.before.before.before.before.before.before.before.before.before.before.before.before in
-    omega (arith, in-loop.loop-test.true, in-loop.before.before.before.before.before.before.requires.0.runs-most)
+    omega (arith, in-loop.loop-test.true, in-loop.before.before.before.before.before.before.requires.0.runs_most)
 
 mul-last : tie.Need-overflow-mul-last invariant-loop decreases-loop
 mul-last c = omega arith
@@ -117,10 +117,10 @@ loop-again c =
     let run_is = past.before.before.before.before.before.before.before.before.run_of.ensures.0 in
     let spot = past.before.before.before.spot_of_lem.ensures in
     let inserted = c.before.before.before.insert.ensures in
-    let more = seek-more loop.invariant.0 (in_list start.args.b.now start.args.rd loop.k few)
+    let more = seek_more loop.invariant.0 (in_list start.args.b.now start.args.rd loop.k few)
     (sym past.before.is-twice.ensures ∙ past.if1.false) in (
       more,
-      rw (c.pointer-to.ensures, run_is) (recent-more loop.invariant.1 (owned start.requires.0 loop.k few)),
+      rw (c.pointer-to.ensures, run_is) (recent_more loop.invariant.1 (owned start.requires.0 loop.k few)),
       rw inserted (sorted_more spot (distinct (rowed start.requires.0 start.requires.1) more.clear more.within)),
       simp length-set loop.invariant.3,
       rw inserted (simp length-set loop.invariant.4),
@@ -135,7 +135,7 @@ same-length-4 c = c.before.loop.invariant.4
 returns-2 : tie.Need-returns-2 invariant-loop decreases-loop
 returns-2 c =
     let start = c.before.before.before.before.before.before in
-    seek-miss c.before.loop.invariant.0 (omega (arith, table_runs start.args.b.now start.args.rd))
+    seek_miss c.before.loop.invariant.0 (omega (arith, table_runs start.args.b.now start.args.rd))
 
 pub lowest-twice-spec : {M : Type 1} → statement M
 lowest-twice-spec =

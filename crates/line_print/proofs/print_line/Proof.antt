@@ -7,9 +7,9 @@ use native.Mathlib.Omega.{arith}
 use lib.ListN.{length, length-set}
 use Rattle.laws.specs.Lists.{flat}
 use Rattle.laws.proofs.Writing.{more, stored, moved, done, length-lent}
-use Rattle.paper.specs.Text.{printLine}
+use Rattle.paper.specs.Text.{print_line}
 use Rattle.number_print.specs.Spaced.{spaced}
-use Rattle.line_print.proofs.Line.{word-written, line-length, line-room}
+use Rattle.line_print.proofs.Line.{word_written, line-length, line-room}
 use borrow.Author.Rules.{rules}
 use Rattle.line_print.proofs.print_line.Statement.{statement}
 use Rattle.line_print.proofs.print_line.Tie as tie
@@ -18,7 +18,7 @@ use Rattle.line_print.proofs.print_line.Tie as tie
 parts : (s : tie.Start) →
     let word = s.args.word.now in
     let numbers = s.args.numbers.now in
-    length (printLine word numbers) ≡ length word + length (flat spaced numbers) + 1
+    length (print_line word numbers) ≡ length word + length (flat spaced numbers) + 1
 parts s = line-length s.args.word.now s.args.numbers.now
 
 -- and all of it has room, where the numbers were put behind the word
@@ -26,7 +26,7 @@ room : (c : tie.After-slice-known3) →
     let start = c.before.before.before.before.before.before.before.before.before.before.before in
     let word = start.args.word.now in
     let end = length word + c.before.before.print-numbers.result in
-    (end < length start.args.out.now) × (end + 1 ≡ length (printLine word start.args.numbers.now))
+    (end < length start.args.out.now) × (end + 1 ≡ length (print_line word start.args.numbers.now))
 room c =
     let start = c.before.before.before.before.before.before.before.before.before.before.before in
     let put = c.before.before.print-numbers in
@@ -69,7 +69,7 @@ returns c =
     let numbers = start.args.numbers.now in
     let first = c.before.before.before.before.before.before.put-bytes in
     let put = c.before.before.print-numbers in
-    let both = more _ _ (10 ∷ []) _ (flat spaced numbers) _ _ (word-written word numbers _ _ first.ensures) put.ensures.1 in
+    let both = more _ _ (10 ∷ []) _ (flat spaced numbers) _ _ (word_written word numbers _ _ first.ensures) put.ensures.1 in
     let all = stored _ _ [] _ 10 _ (moved (ap (λ n. length word + n) (sym put.ensures.0)) both) (room c).0 in
     ((room c).1, done _ _ _ _ all)
 

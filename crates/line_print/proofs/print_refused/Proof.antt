@@ -5,14 +5,14 @@ use mathlib.Core.List.{[], ◌∷◌}
 use native.Mathlib.Omega.{arith}
 use lib.ListN.{length}
 use borrow.Author.Rules.{rules}
-use Rattle.paper.specs.Limits.{refusedLineRoom}
-use Rattle.paper.specs.Text.{printLine, refusedWord}
-use Rattle.line_print.proofs.Line.{line-most}
+use Rattle.paper.specs.Limits.{refused_line_room}
+use Rattle.paper.specs.Text.{print_line, refused_word}
+use Rattle.line_print.proofs.Line.{line_most}
 use Rattle.line_print.proofs.print_refused.Statement.{statement}
 use Rattle.line_print.proofs.print_refused.Tie as tie
 
-refused-fits : (n p room : ℕ) → n < 2 ^ 64 → p < 2 ^ 64 → refusedLineRoom ≤ room → length (printLine refusedWord (n ∷ p ∷ [])) ≤ room
-refused-fits n p room h l r = omega (arith, line-most 19 refusedWord (n ∷ p ∷ []) (omega arith, (omega arith, tt)))
+refused-fits : (n p room : ℕ) → n < 2 ^ 64 → p < 2 ^ 64 → refused_line_room ≤ room → length (print_line refused_word (n ∷ p ∷ [])) ≤ room
+refused-fits n p room h l r = omega (arith, line_most 19 refused_word (n ∷ p ∷ []) (omega arith, (omega arith, tt)))
 
 print-line-requires : tie.Need-print-line-requires
 print-line-requires c κs = refused-fits _ _ _ (search rules) (search rules) (search rules)

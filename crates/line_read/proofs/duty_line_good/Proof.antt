@@ -4,12 +4,12 @@ use mathlib.Core.Path.{sym}
 use native.Mathlib.Omega.{arith}
 use borrow.Author.Rules.{rules}
 use lib.Seq.{length-take-le}
-use Rattle.line_read.proofs.DutyLines.{duty-none, duty-good}
+use Rattle.line_read.proofs.DutyLines.{duty_none, duty-good}
 use Rattle.line_read.proofs.duty_line_good.Statement.{statement}
 use Rattle.line_read.proofs.duty_line_good.Tie as tie
 
 returns : tie.Need-returns
-returns c = sym (duty-none c.before.before.before.args.c.now (omega (arith, c.before.find.ensures.0)))
+returns c = sym (duty_none c.before.before.before.args.c.now (omega (arith, c.before.find.ensures.0)))
 
 slice-aggregate-is-number : tie.Need-slice-aggregate-is-number
 slice-aggregate-is-number c = sym (length-take-le _ _ (search rules))

@@ -3,7 +3,7 @@
 use mathlib.Core.Path.{sym}
 use borrow.Author.Rules.{rules}
 use lib.Seq.{length-take-le}
-use Rattle.line_read.proofs.DutyLines.{Parts, duty-parts, duty-is}
+use Rattle.line_read.proofs.DutyLines.{Parts, duty-parts, duty_is}
 use Rattle.line_read.proofs.duty_read.Statement.{statement}
 use Rattle.line_read.proofs.duty_read.Tie as tie
 
@@ -30,7 +30,7 @@ returns : tie.Need-returns
 returns c =
     let text = c.before.before.before.before.before.before.args.c.now in
     let space = c.before.before.before.before.find in
-    rw (c.before.before.value_of_lem.ensures, c.value-of2.ensures) (sym (duty-is text space.result space.ensures.0))
+    rw (c.before.before.value_of_lem.ensures, c.value-of2.ensures) (sym (duty_is text space.result space.ensures.0))
 
 pub duty-read-spec : {M : Type 1} → statement M
 duty-read-spec =

@@ -4,13 +4,13 @@ use Prim.Native.Nat.{◌-◌, ◌*◌, ◌≤◌}
 use native.Mathlib.Nat.{mul-le-mul}
 use native.Mathlib.Omega.{arith}
 use borrow.Author.Rules.{rules}
-use Rattle.paper.specs.Limits.{mostBlocks, mostRuns}
+use Rattle.paper.specs.Limits.{most_blocks, most_runs}
 use Rattle.load_count.proofs.over_blocks.Statement.{statement}
 use Rattle.load_count.proofs.over_blocks.Tie as tie
 
 -- the loads after the first block fit 64 bits
-fits : (c : tie.Start) → (c.args.blocks - 1) * (c.args.loads - c.args.kept) ≤ mostBlocks * mostRuns
-fits c = mul-le-mul {n₂ = mostBlocks} {m₂ = mostRuns} (omega arith) (omega arith)
+fits : (c : tie.Start) → (c.args.blocks - 1) * (c.args.loads - c.args.kept) ≤ most_blocks * most_runs
+fits c = mul-le-mul {n₂ = most_blocks} {m₂ = most_runs} (omega arith) (omega arith)
 
 sub-result : tie.Need-overflow-sub-result
 sub-result c = search rules

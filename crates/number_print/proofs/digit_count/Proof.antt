@@ -1,7 +1,7 @@
 -- `digit_count`: each division by 10 takes one digit away.
 -- Assumes nothing.
 use borrow.Author.Rules.{rules}
-use Rattle.number_print.proofs.Decimal.{Counting, counting-start, counting_more, counting-end}
+use Rattle.number_print.proofs.Decimal.{Counting, counting_start, counting_more, counting_end}
 use Rattle.number_print.proofs.digit_count.Statement.{statement}
 use Rattle.number_print.proofs.digit_count.Tie as tie
 
@@ -12,13 +12,13 @@ abbrev decreases-loop : tie.decreases-loop
 decreases-loop n count₀ left₀ count left = left
 
 loop-holds : tie.Need-loop-init invariant-loop decreases-loop
-loop-holds c = counting-start _ (search rules)
+loop-holds c = counting_start _ (search rules)
 
 loop-again : tie.Need-loop-preserved invariant-loop decreases-loop
 loop-again c = counting_more c.before.loop.invariant (search rules)
 
 returns : tie.Need-returns invariant-loop decreases-loop
-returns c = counting-end c.before.loop.invariant (search rules)
+returns c = counting_end c.before.loop.invariant (search rules)
 
 pub digit-count-spec : {M : Type 1} → statement M
 digit-count-spec =

@@ -6,13 +6,13 @@ use Prim.Native.Nat.{◌≤◌, ◌+◌, ◌-◌}
 use borrow.Author.Rules.{rules}
 use borrow.Author.Tests.{not-true, not-false}
 use lib.ListN.{length, drop}
-use Rattle.paper.specs.Text.{allDigits}
-use Rattle.number_read.proofs.Numbers.{digits_step, digits-end}
+use Rattle.paper.specs.Text.{all_digits}
+use Rattle.number_read.proofs.Numbers.{digits_step, digits_end}
 use Rattle.number_read.proofs.all_digits.Statement.{statement}
 use Rattle.number_read.proofs.all_digits.Tie as tie
 
 abbrev invariant-loop : tie.invariant-loop
-invariant-loop c i₀ i = (i ≤ length c) × (allDigits (drop i c) ≡ allDigits c)
+invariant-loop c i₀ i = (i ≤ length c) × (all_digits (drop i c) ≡ all_digits c)
 
 abbrev decreases-loop : tie.decreases-loop
 decreases-loop c i₀ i = length c - i
@@ -20,7 +20,7 @@ decreases-loop c i₀ i = length c - i
 -- what is left, by whether the byte that was looked at is a digit
 left : (c : tie.After-is-digit invariant-loop decreases-loop) (t : Bool) → c.is_digit.result ≡ t →
     let bytes = c.before.before.before.before.before.args.c.now in
-    t && allDigits (drop (c.before.before.before.loop.i + 1) bytes) ≡ allDigits bytes
+    t && all_digits (drop (c.before.before.before.loop.i + 1) bytes) ≡ all_digits bytes
 left c t e =
     let start = c.before.before.before.before.before in
     let loop = c.before.before.before.loop in
@@ -39,7 +39,7 @@ returns-2 : tie.Need-returns-2 invariant-loop decreases-loop
 returns-2 c =
     let start = c.before.before.before in
     let loop = c.before.loop in
-    sym (digits-end start.args.c.now loop.i (search rules)) ∙ loop.invariant.1
+    sym (digits_end start.args.c.now loop.i (search rules)) ∙ loop.invariant.1
 
 pub all-digits-spec : {M : Type 1} → statement M
 all-digits-spec =

@@ -2,17 +2,17 @@
 -- Assumes nothing.
 use mathlib.Core.Path.{sym}
 use borrow.Author.Rules.{rules}
-use Rattle.number_read.proofs.Numbers.{number-none, number-some}
+use Rattle.number_read.proofs.Numbers.{number_none, number_some}
 use Rattle.number_read.proofs.is_number.Statement.{statement}
 use Rattle.number_read.proofs.is_number.Tie as tie
 
 returns : tie.Need-returns
-returns c = sym (number-none c.before.before.args.c.now (search rules))
+returns c = sym (number_none c.before.before.args.c.now (search rules))
 
 returns-2 : tie.Need-returns-2
 returns-2 c =
     let start = c.before.before.before.before in
-    rw c.before.all_digits.ensures (sym (number-some start.args.c.now (search rules)))
+    rw c.before.all_digits.ensures (sym (number_some start.args.c.now (search rules)))
 
 pub is-number-spec : {M : Type 1} → statement M
 is-number-spec =

@@ -5,25 +5,25 @@ use Prim.Native.Nat.{◌+◌, ◌-◌, ◌*◌, ◌^◌, ◌≤◌, ◌<◌}
 use borrow.Author.Rules.{rules}
 use lib.ListN.{length, get_or, drop}
 use native.Mathlib.Omega.{arith}
-use Rattle.paper.specs.Limits.{mostDigits}
-use Rattle.paper.specs.Text.{valueFrom, value}
-use Rattle.number_read.proofs.Numbers.{digit_at, number_digits, next-below, value-step, value-end}
+use Rattle.paper.specs.Limits.{most_digits}
+use Rattle.paper.specs.Text.{value_from, value}
+use Rattle.number_read.proofs.Numbers.{digit_at, number_digits, next_below, value_step, value_end}
 use Rattle.number_read.proofs.value_of.Statement.{statement}
 use Rattle.number_read.proofs.value_of.Tie as tie
 
 abbrev invariant-loop : tie.invariant-loop
-invariant-loop c v₀ i₀ v i = (i ≤ length c) × (valueFrom v (drop i c) ≡ value c)
+invariant-loop c v₀ i₀ v i = (i ≤ length c) × (value_from v (drop i c) ≡ value c)
 
 abbrev decreases-loop : tie.decreases-loop
 decreases-loop c v₀ i₀ v i = length c - i
 
 -- every value on the way has nine digits at the most
 fits : (c : tie.In-loop invariant-loop decreases-loop)
-    → c.before.loop.v * 10 + (get_or c.before.before.args.c.now c.before.loop.i 0 - 48) < 10 ^ mostDigits
+    → c.before.loop.v * 10 + (get_or c.before.before.args.c.now c.before.loop.i 0 - 48) < 10 ^ most_digits
 fits c =
     let start = c.before.before in
     let loop = c.before.loop in
-    next-below loop.v start.args.c.now loop.i start.requires (search rules) loop.invariant.1
+    next_below loop.v start.args.c.now loop.i start.requires (search rules) loop.invariant.1
 
 loop-holds : tie.Need-loop-init invariant-loop decreases-loop
 loop-holds c = (search rules, refl)
@@ -47,12 +47,12 @@ loop-again : tie.Need-loop-preserved invariant-loop decreases-loop
 loop-again c =
     let start = c.before.before.before in
     let loop = c.before.before.loop in
-    (search rules, sym (value-step loop.v start.args.c.now loop.i (search rules)) ∙ loop.invariant.1)
+    (search rules, sym (value_step loop.v start.args.c.now loop.i (search rules)) ∙ loop.invariant.1)
 
 returns : tie.Need-returns invariant-loop decreases-loop
 returns c =
     let loop = c.before.loop in
-    sym (value-end loop.v c.before.before.args.c.now loop.i (search rules)) ∙ loop.invariant.1
+    sym (value_end loop.v c.before.before.args.c.now loop.i (search rules)) ∙ loop.invariant.1
 
 pub value-of-spec : {M : Type 1} → statement M
 value-of-spec =

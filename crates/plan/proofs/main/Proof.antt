@@ -3,12 +3,12 @@
 use borrow.Author.Rules.{rules}
 use mathlib.Core.Path.{sym}
 use lib.Seq.{length-take-le}
-use Rattle.line_print.proofs.Line.{puts-fits}
+use Rattle.line_print.proofs.Line.{puts_fits}
 use Rattle.plan.proofs.main.Statement.{statement}
 use Rattle.plan.proofs.main.Tie as tie
 
 array-share-prefix-out : tie.Need-array-share-prefix-out
-array-share-prefix-out c = puts-fits _ _ _ _ c.run-plan.ensures
+array-share-prefix-out c = puts_fits _ _ _ _ c.run-plan.ensures
 
 slice-aggregate-write-all : tie.Need-slice-aggregate-write-all
 slice-aggregate-write-all c = sym (length-take-le _ _ (array-share-prefix-out c.before))

@@ -8,8 +8,8 @@ use Rattle.paper.specs.Text.{printed}
 use Rattle.paper.specs.Outcome.{answer, and_then}
 use Rattle.paper.specs.Rules.{accepted}
 use Rattle.paper.proofs.Outcomes.{then_same}
-use Rattle.judge.proofs.Asked.{ready_read, asked-accepted, asked-refused}
-use Rattle.plan.proofs.Printed.{puts-as}
+use Rattle.judge.proofs.Asked.{ready_read, asked_accepted, asked_refused}
+use Rattle.plan.proofs.Printed.{puts_as}
 use Rattle.plan.proofs.print_plan.Statement.{statement}
 use Rattle.plan.proofs.print_plan.Tie as tie
 
@@ -26,9 +26,9 @@ returns c =
     let judged = c.before.before.before.before.before.before.judged in
     let start = c.before.before.before.before.before.before.before.before.before.before.before.before in
     let b = c.before.before.before.before.before.before.before.before.before.before.before.before.args.table.now in
-    let told = asked-accepted rule-on.ensures answer
+    let told = asked_accepted rule-on.ensures answer
     judged.given.1 refl ∙ same b in
-    puts-as start.args.out.now
+    puts_as start.args.out.now
     (ap printed told) c.before.before.print-text.ensures.0
 
 returns-2 : tie.Need-returns-2
@@ -37,9 +37,9 @@ returns-2 c =
     let judged2 = c.before.before.before.before.before.before.judged2 in
     let start = c.before.before.before.before.before.before.before.before.before.before.before.before in
     let b = c.before.before.before.before.before.before.before.before.before.before.before.before.args.table.now in
-    let told = asked-refused rule-on.ensures answer
+    let told = asked_refused rule-on.ensures answer
     judged2.given.1 c.before.before.before.refusal-of.ensures ∙ same b in
-    puts-as start.args.out.now
+    puts_as start.args.out.now
     (ap printed told) c.before.before.print-refused.ensures
 
 pub print-plan-spec : {M : Type 1} → statement M

@@ -4,9 +4,9 @@ use mathlib.Core.Path.{sym, ap}
 use lib.Seq.{length-take-le}
 use borrow.Author.Rules.{rules}
 use Rattle.paper.specs.Text.{printed}
-use Rattle.plan_input.specs.AsWanted.{wantedIn}
-use Rattle.plan.proofs.Building.{built-bytes, built-refused}
-use Rattle.plan.proofs.Printed.{puts-as}
+use Rattle.plan_input.specs.AsWanted.{wanted_in}
+use Rattle.plan.proofs.Building.{built_bytes, built_refused}
+use Rattle.plan.proofs.Printed.{puts_as}
 use Rattle.plan.proofs.print_planned.Statement.{statement}
 use Rattle.plan.proofs.print_planned.Tie as tie
 
@@ -24,7 +24,7 @@ array-share-prefix-table : tie.Need-array-share-prefix-table
 array-share-prefix-table c =
     let build = c.before.before.before.before.before.build in
     let given = c.before.before.before.before.before.before.before.before.before.before.before.before.before.args.given in
-    (built-bytes (wantedIn given) build.ensures c.before.before.size.given.1).0
+    (built_bytes (wanted_in given) build.ensures c.before.before.size.given.1).0
 
 slice-aggregate-print-plan : tie.Need-slice-aggregate-print-plan
 slice-aggregate-print-plan c = sym (length-take-le _ _ (array-share-prefix-table c.before))
@@ -35,10 +35,10 @@ returns c =
     let size = c.before.before.before.before.before.before.size in
     let built = c.before.before.before.before.before.before.before.before in
     let args = built.before.before.before.before.before.before.before.before.before.args in
-    let same = (built-bytes (wantedIn args.given)
+    let same = (built_bytes (wanted_in args.given)
     build.ensures
     size.given.1).1 in
-    puts-as args.out.now (ap printed same) c.before.before.print-plan.ensures
+    puts_as args.out.now (ap printed same) c.before.before.print-plan.ensures
 
 returns-2 : tie.Need-returns-2
 returns-2 c =
@@ -46,9 +46,9 @@ returns-2 c =
     let why = c.before.before.before.before.before.why in
     let built = c.before.before.before.before.before.before.before.before in
     let args = built.before.before.before.before.before.before.before.before.args in
-    let same = built-refused (wantedIn args.given) build.ensures
+    let same = built_refused (wanted_in args.given) build.ensures
     why.given.1 in
-    puts-as args.out.now (ap printed (sym same)) c.before.before.print-refused.ensures
+    puts_as args.out.now (ap printed (sym same)) c.before.before.print-refused.ensures
 
 pub print-planned-spec : {M : Type 1} → statement M
 print-planned-spec =

@@ -1,6 +1,6 @@
 -- `run_plan`: what was read decides what is printed.
 -- Assumes nothing.
-use Rattle.plan.proofs.Printed.{puts-as, program-is}
+use Rattle.plan.proofs.Printed.{puts_as, program_is}
 use Rattle.plan_input.proofs.NothingLost.{read-room}
 use borrow.Author.Rules.{rules}
 use Rattle.plan.proofs.run_plan.Statement.{statement}
@@ -13,16 +13,16 @@ returns : tie.Need-returns
 returns c =
     let read-input = c.before.before.before.before.read-input in
     let start = c.before.before.before.before.before.before in
-    let same = program-is _ read-input.ensures c.before.before.enum_told.given.1 in
-    puts-as start.args.out.now same c.print-planned.ensures
+    let same = program_is _ read-input.ensures c.before.before.enum_told.given.1 in
+    puts_as start.args.out.now same c.print-planned.ensures
 
 returns-2 : tie.Need-returns-2
 returns-2 c =
     let read-input = c.before.before.before.before.before.read-input in
     let start = c.before.before.before.before.before.before.before in
-    let same = program-is _ read-input.ensures
+    let same = program_is _ read-input.ensures
     c.before.before.before.verdict.given.1 in
-    puts-as start.args.out.now same c.print-refused.ensures
+    puts_as start.args.out.now same c.print-refused.ensures
 
 pub run-plan-spec : {M : Type 1} → statement M
 run-plan-spec =

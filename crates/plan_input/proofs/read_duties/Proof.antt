@@ -11,14 +11,14 @@ use lib.ListN.{length}
 use lib.Seq.{length-take-le}
 use borrow.Author.Tests.{not-true, not-false}
 use Rattle.laws.proofs.Writing.{lent-rest}
-use Rattle.paper.specs.Limits.{mostDuties}
-use Rattle.line_read.specs.Line.{lineGood}
+use Rattle.paper.specs.Limits.{most_duties}
+use Rattle.line_read.specs.Line.{line_good}
 use Rattle.plan_input.proofs.LinesRead.{LinesRead, none_read, one_more, rest, Ahead, ahead, broken, finished}
 use Rattle.plan_input.proofs.read_duties.Statement.{statement}
 use Rattle.plan_input.proofs.read_duties.Tie as tie
 
 abbrev invariant-loop : tie.invariant-loop
-invariant-loop b engines services₀ periods₀ i₀ at₀ services periods i at = (i ≤ mostDuties) × (at ≤ length b) × LinesRead b services periods i at
+invariant-loop b engines services₀ periods₀ i₀ at₀ services periods i at = (i ≤ most_duties) × (at ≤ length b) × LinesRead b services periods i at
 
 abbrev decreases-loop : tie.decreases-loop
 decreases-loop b engines services₀ periods₀ i₀ at₀ services periods i at = length b - at
@@ -35,7 +35,7 @@ lent c = rest (text c) c.before.before.before.loop.at
 -- a line that passed its test is good ..
 good : (c : tie.Else1 invariant-loop decreases-loop) →
     let found = c.before.before in
-    lineGood found.before.before.before.loop.i (lent found) found.find.result ≡ true
+    line_good found.before.before.before.loop.i (lent found) found.find.result ≡ true
 good c = sym c.before.line-good.ensures ∙ not-false _ c.if1.false
 
 -- .. and leads on

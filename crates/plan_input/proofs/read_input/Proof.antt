@@ -8,9 +8,9 @@ use borrow.Author.Rules.{rules}
 use borrow.Author.Tests.{not-true, not-false}
 use lib.Seq.{length-take-le}
 use Rattle.laws.proofs.Writing.{lent-rest}
-use Rattle.paper.specs.Text.{inputRead}
-use Rattle.line_read.specs.Line.{firstGood}
-use Rattle.plan_input.proofs.Lines.{FirstParts, first-parts, input-long, input-line}
+use Rattle.paper.specs.Text.{input_read}
+use Rattle.line_read.specs.Line.{first_good}
+use Rattle.plan_input.proofs.Lines.{FirstParts, first-parts, input_long, input-line}
 use Rattle.plan_input.proofs.read_input.Statement.{statement}
 use Rattle.plan_input.proofs.read_input.Tie as tie
 
@@ -18,21 +18,21 @@ use Rattle.plan_input.proofs.read_input.Tie as tie
 abbrev text : tie.After-find → List ℕ
 text c = c.before.before.before.args.b.now
 
-good : (c : tie.Else2) → let found = c.before.before in firstGood (text found) found.find.result ≡ true
+good : (c : tie.Else2) → let found = c.before.before in first_good (text found) found.find.result ≡ true
 good c = sym c.before.first-line-good.ensures ∙ not-false _ c.if2.false
 
 parts : (c : tie.Else2) → let found = c.before.before in FirstParts (text found) found.find.result
 parts c = let found = c.before.before in first-parts (text found) found.find.result (good c)
 
 returns : tie.Need-returns
-returns c = c.faulty.ensures ∙ ap inputRead (sym (input-long c.before.before.before.args.b.now (search rules)))
+returns c = c.faulty.ensures ∙ ap input_read (sym (input_long c.before.before.before.args.b.now (search rules)))
 
 returns-2 : tie.Need-returns-2
 returns-2 c =
     let found = c.before.before.before in
     let bad = sym c.before.before.first-line-good.ensures ∙ not-true _ c.before.if2.true in
     let first = input-line (text found) found.find.result false (search rules) found.find.ensures.0 bad in
-    c.faulty2.ensures ∙ ap inputRead (sym first)
+    c.faulty2.ensures ∙ ap input_read (sym first)
 
 slice-aggregate-engines-read : tie.Need-slice-aggregate-engines-read
 slice-aggregate-engines-read c = sym (length-take-le _ _ (search rules))
@@ -52,7 +52,7 @@ returns-3 c =
     let found = passed.before.before in
     let first = input-line (text found) found.find.result true (search rules) found.find.ensures.0 (good passed) in
     c.read-duties.ensures
-    ∙ rw (c.before.before.engines-read.ensures, lent-rest (found.find.result + 1) (text found)) (ap inputRead (sym first))
+    ∙ rw (c.before.before.engines_read_lem.ensures, lent-rest (found.find.result + 1) (text found)) (ap input_read (sym first))
 
 pub read-input-spec : {M : Type 1} → statement M
 read-input-spec =

@@ -1,8 +1,8 @@
 -- `print_text`: what follows from the table is written behind what stands in it.
 -- Assumes nothing.
-use Rattle.laws.proofs.Writing.{written, grown, all-written, renamed}
+use Rattle.laws.proofs.Writing.{written, grown, all_written, renamed}
 use Rattle.record_read.specs.Formed.{table_of}
-use Rattle.plan_text.proofs.Rotating.{text-is}
+use Rattle.plan_text.proofs.Rotating.{text_is}
 use borrow.Author.Rules.{rules}
 use Rattle.plan_text.proofs.print_text.Statement.{statement}
 use Rattle.plan_text.proofs.print_text.Tie as tie
@@ -14,8 +14,8 @@ returns c =
     let rotation = c.before.before.print-rotation in
     let first = written _ _ _ _ table.ensures.0.1 table.ensures.0.0 in
     let both = grown _ _ _ first rotation.ensures.0.0 rotation.ensures.0.1 in (
-      all-written (renamed
-          (text-is (table_of start.args.b.now
+      all_written (renamed
+          (text_is (table_of start.args.b.now
           start.args.rd)) both),
       search rules,
     )

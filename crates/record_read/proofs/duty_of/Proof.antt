@@ -1,7 +1,7 @@
 -- `duty_of`: the bytes reach past every duty record, and what is read there is the table's duty.
 -- Assumes nothing.
 use mathlib.Core.Path.{sym}
-use Rattle.record_read.proofs.Table.{table-duty}
+use Rattle.record_read.proofs.Table.{table_duty}
 use borrow.Author.Rules.{rules}
 use Rattle.record_read.proofs.duty_of.Statement.{statement}
 use Rattle.record_read.proofs.duty_of.Tie as tie
@@ -10,8 +10,8 @@ returns : tie.Need-returns
 returns c =
     let start = c.before.before.before in
     let place = c.before.duty-place.ensures in (
-      rw (c.read-duty.ensures, place) (sym (table-duty _ start.args.rd _ start.requires.1)),
-      rw (c.read-duty.ensures, place) (start.requires.0.duty-ranged _ start.requires.1),
+      rw (c.read-duty.ensures, place) (sym (table_duty _ start.args.rd _ start.requires.1)),
+      rw (c.read-duty.ensures, place) (start.requires.0.duty_ranged_lem _ start.requires.1),
     )
 
 pub duty-of-spec : {M : Type 1} → statement M

@@ -1,13 +1,13 @@
 -- `read_run`: its four fields.
 -- Assumes nothing.
 use native.Mathlib.Nat.{add_assoc}
-use Rattle.paper.specs.Bytes.{runIn}
+use Rattle.paper.specs.Bytes.{run_in}
 use borrow.Author.Rules.{rules}
 use Rattle.record_read.proofs.read_run.Statement.{statement}
 use Rattle.record_read.proofs.read_run.Tie as tie
 
 returns : tie.Need-returns
-unfolding runIn
+unfolding run_in
 returns c =
     let row = c.before.before.before.read_one in
     let duty = c.before.before.read-one2 in

@@ -6,7 +6,7 @@ use native.Mathlib.Omega.{arith}
 use lib.ListN.{length}
 use borrow.Author.Tests.{not-true, not-false}
 use Rattle.paper.proofs.Passed.{standing}
-use Rattle.paper.specs.Limits.{dutyKind, dutyLength}
+use Rattle.paper.specs.Limits.{duty_kind, duty_length}
 use borrow.Author.Rules.{rules}
 use Rattle.record_tests.proofs.duty_good.Statement.{statement}
 use Rattle.record_tests.proofs.duty_good.Tie as tie
@@ -18,8 +18,8 @@ returns : tie.Need-returns
 returns c = rw (sym c.before.record-stands.ensures ∙ not-true _ c.if1.true)
 
 -- the record is all there
-long : (c : tie.Else1) → c.before.before.before.args.at + dutyLength ≤ length c.before.before.before.args.b.now
-long c = (standing _ _ dutyKind dutyLength (sym c.before.record-stands.ensures ∙ not-false _ c.if1.false)).room
+long : (c : tie.Else1) → c.before.before.before.args.at + duty_length ≤ length c.before.before.before.args.b.now
+long c = (standing _ _ duty_kind duty_length (sym c.before.record-stands.ensures ∙ not-false _ c.if1.false)).room
 
 read-duty-requires : tie.Need-read-duty-requires
 read-duty-requires c κs = omega (arith, long c)

@@ -6,7 +6,7 @@ use native.Mathlib.Omega.{arith}
 use lib.ListN.{length}
 use borrow.Author.Tests.{not-true, not-false}
 use Rattle.paper.proofs.Passed.{standing}
-use Rattle.paper.specs.Limits.{endKind, endLength}
+use Rattle.paper.specs.Limits.{end_kind, end_length}
 use borrow.Author.Rules.{rules}
 use Rattle.record_tests.proofs.end_good.Statement.{statement}
 use Rattle.record_tests.proofs.end_good.Tie as tie
@@ -21,8 +21,8 @@ add-read-two : tie.Need-overflow-add-read-two
 add-read-two c = search rules
 
 -- the record is all there
-long : (c : tie.Else1) → c.before.before.before.args.at + endLength ≤ length c.before.before.before.args.b.now
-long c = (standing _ _ endKind endLength (sym c.before.record-stands.ensures ∙ not-false _ c.if1.false)).room
+long : (c : tie.Else1) → c.before.before.before.args.at + end_length ≤ length c.before.before.before.args.b.now
+long c = (standing _ _ end_kind end_length (sym c.before.record-stands.ensures ∙ not-false _ c.if1.false)).room
 
 read-two-requires : tie.Need-read-two-requires
 read-two-requires c κs = omega (arith, long c)

@@ -5,7 +5,7 @@ use Prim.Native.Nat.{◌≤◌}
 use native.Mathlib.Omega.{arith}
 use lib.ListN.{length}
 use borrow.Author.Tests.{not-true, not-false}
-use Rattle.paper.specs.Limits.{small, headLength}
+use Rattle.paper.specs.Limits.{small, head_length}
 use Rattle.paper.proofs.Passed.{standing}
 use borrow.Author.Rules.{rules}
 use Rattle.record_tests.proofs.head_good.Statement.{statement}
@@ -18,8 +18,8 @@ returns : tie.Need-returns
 returns c = rw (sym c.before.record-stands.ensures ∙ not-true _ c.if1.true)
 
 -- the head is all there
-long : (c : tie.Else1) → headLength small ≤ length c.before.before.before.args.b.now
-long c = (standing _ 0 small.headKind (headLength small) (sym c.before.record-stands.ensures ∙ not-false _ c.if1.false)).room
+long : (c : tie.Else1) → head_length small ≤ length c.before.before.before.args.b.now
+long c = (standing _ 0 small.head_kind (head_length small) (sym c.before.record-stands.ensures ∙ not-false _ c.if1.false)).room
 
 read-head-requires : tie.Need-read-head-requires
 read-head-requires c κs = omega (arith, long c)

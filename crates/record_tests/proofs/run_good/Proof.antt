@@ -6,7 +6,7 @@ use native.Mathlib.Omega.{arith}
 use lib.ListN.{length}
 use borrow.Author.Tests.{not-true, not-false}
 use Rattle.paper.proofs.Passed.{standing}
-use Rattle.paper.specs.Limits.{small, runLength}
+use Rattle.paper.specs.Limits.{small, run_length}
 use borrow.Author.Rules.{rules}
 use Rattle.record_tests.proofs.run_good.Statement.{statement}
 use Rattle.record_tests.proofs.run_good.Tie as tie
@@ -18,8 +18,8 @@ returns : tie.Need-returns
 returns c = rw (sym c.before.record-stands.ensures ∙ not-true _ c.if1.true)
 
 -- the record is all there
-long : (c : tie.Else1) → c.before.before.before.args.at + runLength small ≤ length c.before.before.before.args.b.now
-long c = (standing _ _ small.runKind (runLength small) (sym c.before.record-stands.ensures ∙ not-false _ c.if1.false)).room
+long : (c : tie.Else1) → c.before.before.before.args.at + run_length small ≤ length c.before.before.before.args.b.now
+long c = (standing _ _ small.run_kind (run_length small) (sym c.before.record-stands.ensures ∙ not-false _ c.if1.false)).room
 
 read-run-requires : tie.Need-read-run-requires
 read-run-requires c κs = omega (arith, long c)

@@ -7,7 +7,7 @@ use native.Mathlib.Omega.{arith}
 use borrow.Author.Rules.{rules}
 use Rattle.laws.specs.Digits.{digits}
 use Rattle.laws.proofs.Writing.{begun, more, done}
-use Rattle.paper.specs.Bytes.{dutyBytes}
+use Rattle.paper.specs.Bytes.{duty_bytes}
 use Rattle.record_write.proofs.put_duty.Statement.{statement}
 use Rattle.record_write.proofs.put_duty.Tie as tie
 
@@ -25,7 +25,7 @@ same_length c =
     back.out3.given.1 ∙ back-2.out2.given.1 ∙ back-1.out.given
 
 returns : tie.Need-returns
-unfolding dutyBytes digits
+unfolding duty_bytes digits
 returns c =
     let at = c.before.before in
     let at-2 = at.before.before.before.before in

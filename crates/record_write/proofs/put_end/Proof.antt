@@ -7,7 +7,7 @@ use native.Mathlib.Omega.{arith}
 use borrow.Author.Rules.{rules}
 use Rattle.laws.specs.Digits.{digits}
 use Rattle.laws.proofs.Writing.{begun, more, done}
-use Rattle.paper.specs.Bytes.{endBytes}
+use Rattle.paper.specs.Bytes.{end_bytes}
 use Rattle.record_write.proofs.put_end.Statement.{statement}
 use Rattle.record_write.proofs.put_end.Tie as tie
 
@@ -21,7 +21,7 @@ same_length c =
     back.out2.given.1 ∙ back-1.out.given
 
 returns : tie.Need-returns
-unfolding endBytes digits
+unfolding end_bytes digits
 returns c =
     let at = c.before.before in
     let at_1 = at.before.before.before.before in

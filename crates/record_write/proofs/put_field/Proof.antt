@@ -6,7 +6,7 @@ use native.Mathlib.Omega.{arith}
 use borrow.Author.Rules.{rules}
 use lib.ListN.{length, length-set}
 use Rattle.laws.specs.Digits.{digits}
-use Rattle.laws.proofs.Digits.{digits-left, digits-none}
+use Rattle.laws.proofs.Digits.{digits_left, digits_none}
 use Rattle.laws.proofs.Writing.{Wrote, unwritten, stored, done, next}
 use Rattle.record_write.proofs.put_field.Statement.{statement}
 use Rattle.record_write.proofs.put_field.Tie as tie
@@ -30,13 +30,13 @@ loop-again : tie.Need-loop-preserved invariant-loop decreases-loop
 loop-again c =
     let left = c.before.loop.left in
     let i = c.before.loop.i in
-    let next-byte = next (digits-left _ i left (search rules)) c.before.loop.invariant.2 in
+    let next-byte = next (digits_left _ i left (search rules)) c.before.loop.invariant.2 in
     (search rules, simp length-set (search rules), stored _ _ _ _ (left % 256) i next-byte (search rules))
 
 returns : tie.Need-returns invariant-loop decreases-loop
 returns c =
     let loop = c.before.loop in
-    done _ _ _ _ (next (digits-none _ loop.i loop.left (search rules)) loop.invariant.2)
+    done _ _ _ _ (next (digits_none _ loop.i loop.left (search rules)) loop.invariant.2)
 
 pub put-field-spec : {M : Type 1} → statement M
 put-field-spec =

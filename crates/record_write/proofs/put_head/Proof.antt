@@ -43,7 +43,7 @@ returns c =
     (more _ _ [] _ duties _ 6
     (more _ _ duties _ engines _ 5
     (more _ _ (engines ++ duties) _ ticks _ 1
-    (begun _ (ticks ++ engines ++ duties) (digits 1 small.headKind) _ at_1.put-field.ensures)
+    (begun _ (ticks ++ engines ++ duties) (digits 1 small.head_kind) _ at_1.put-field.ensures)
     at-2.put-field2.ensures)
     at-3.put-field3.ensures)
     at.put-field4.ensures)

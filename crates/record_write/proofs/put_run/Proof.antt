@@ -7,7 +7,7 @@ use native.Mathlib.Omega.{arith}
 use borrow.Author.Rules.{rules}
 use Rattle.laws.specs.Digits.{digits}
 use Rattle.laws.proofs.Writing.{begun, more, done}
-use Rattle.paper.specs.Bytes.{runBytes}
+use Rattle.paper.specs.Bytes.{run_bytes}
 use Rattle.paper.specs.Limits.{small}
 use Rattle.record_write.proofs.put_run.Statement.{statement}
 use Rattle.record_write.proofs.put_run.Tie as tie
@@ -34,7 +34,7 @@ same_length c =
     back.out5.given.1 ∙ back-4.out4.given.1 ∙ back-3.out3.given.1 ∙ back-2.out2.given.1 ∙ back-1.out.given
 
 returns : tie.Need-returns
-unfolding runBytes digits
+unfolding run_bytes digits
 returns c =
     let at = c.before.before in
     let at-4 = at.before.before.before.before in
@@ -51,7 +51,7 @@ returns c =
     (more _ _ length _ first _ 3
     (more _ _ (first ++ length) _ duty _ 2
     (more _ _ (duty ++ first ++ length) _ row _ 1
-    (begun _ (row ++ duty ++ first ++ length) (digits 1 small.runKind) _ at_1.put-field.ensures)
+    (begun _ (row ++ duty ++ first ++ length) (digits 1 small.run_kind) _ at_1.put-field.ensures)
     at-2.put-field2.ensures)
     at-3.put-field3.ensures)
     at-4.put-field4.ensures)

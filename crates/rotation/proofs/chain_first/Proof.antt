@@ -4,15 +4,15 @@ use Prim.Native.Nat.{◌≤◌}
 use mathlib.Core.Path.{◌≡◌, sym, ap, ◌∙◌}
 use native.Mathlib.Omega.{arith}
 use borrow.Author.Rules.{rules}
-use Rattle.paper.specs.Limits.{mostEngines}
+use Rattle.paper.specs.Limits.{most_engines}
 use Rattle.paper.specs.Rotation.{first_of}
-use Rattle.walk_laws.proofs.Page.{first_back, first-zero, begins}
+use Rattle.walk_laws.proofs.Page.{first_back, first_zero, begins}
 use Rattle.row_edges.specs.Links.{link_of}
 use Rattle.rotation.proofs.chain_first.Statement.{statement}
 use Rattle.rotation.proofs.chain_first.Tie as tie
 
 abbrev invariant-loop : tie.invariant-loop
-invariant-loop edges r₀ r = (r ≤ r₀) × (r₀ ≤ mostEngines) × (first_of (link_of edges) r ≡ first_of (link_of edges) r₀)
+invariant-loop edges r₀ r = (r ≤ r₀) × (r₀ ≤ most_engines) × (first_of (link_of edges) r ≡ first_of (link_of edges) r₀)
 
 abbrev decreases-loop : tie.decreases-loop
 decreases-loop edges r₀ r = r
@@ -48,7 +48,7 @@ returns-2 : tie.Need-returns-2 invariant-loop decreases-loop
 returns-2 c =
     let loop = c.before.loop in
     let z : loop.r ≡ 0 = omega arith in
-    (z ∙ sym (ap (first_of _) z ∙ first-zero _) ∙ loop.invariant.2, search rules)
+    (z ∙ sym (ap (first_of _) z ∙ first_zero _) ∙ loop.invariant.2, search rules)
 
 pub chain-first-spec : {M : Type 1} → statement M
 chain-first-spec =

@@ -3,19 +3,19 @@
 use Prim.Native.Nat.{◌-◌, ◌≤◌}
 use mathlib.Core.Path.{◌≡◌, sym, ◌∙◌}
 use borrow.Author.Rules.{rules}
-use Rattle.paper.specs.Limits.{mostEngines}
+use Rattle.paper.specs.Limits.{most_engines}
 use Rattle.paper.specs.Rotation.{first_of}
 use Rattle.walk_laws.proofs.Page.{first_on}
 use Rattle.row_edges.specs.Links.{link_of}
-use Rattle.row_edges.proofs.Linking.{link-past}
+use Rattle.row_edges.proofs.Linking.{link_past}
 use Rattle.rotation.proofs.chain_last.Statement.{statement}
 use Rattle.rotation.proofs.chain_last.Tie as tie
 
 abbrev invariant-loop : tie.invariant-loop
-invariant-loop edges r₀ r = (r₀ ≤ r) × (r ≤ mostEngines) × (first_of (link_of edges) r ≡ first_of (link_of edges) r₀)
+invariant-loop edges r₀ r = (r₀ ≤ r) × (r ≤ most_engines) × (first_of (link_of edges) r ≡ first_of (link_of edges) r₀)
 
 abbrev decreases-loop : tie.decreases-loop
-decreases-loop edges r₀ r = mostEngines - r
+decreases-loop edges r₀ r = most_engines - r
 
 loop-holds : tie.Need-loop-init invariant-loop decreases-loop
 loop-holds c = search rules
@@ -42,7 +42,7 @@ returns c =
     record { after = search rules; most = search rules; chained = loop.invariant.2; ends = sym linked.ensures ∙ c.if1.false }
 
 returns-2 : tie.Need-returns-2 invariant-loop decreases-loop
-returns-2 c = record { after = search rules; most = search rules; chained = c.before.loop.invariant.2; ends = link-past _ (search rules) }
+returns-2 c = record { after = search rules; most = search rules; chained = c.before.loop.invariant.2; ends = link_past _ (search rules) }
 
 pub chain-last-spec : {M : Type 1} → statement M
 chain-last-spec =

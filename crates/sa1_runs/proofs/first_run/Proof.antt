@@ -3,7 +3,7 @@
 use mathlib.Core.Path.{sym}
 use native.Mathlib.Omega.{arith}
 use borrow.Author.Rules.{rules}
-use Rattle.sa1_runs.proofs.Laying.{first-cut, first-whole}
+use Rattle.sa1_runs.proofs.Laying.{first_cut, first-whole}
 use Rattle.sa1_runs.proofs.first_run.Statement.{statement}
 use Rattle.sa1_runs.proofs.first_run.Tie as tie
 
@@ -14,7 +14,7 @@ sub-length : tie.Need-overflow-sub-length
 sub-length c = search rules
 
 returns : tie.Need-returns
-returns c = sym (first-cut _ _ _ _ (omega arith))
+returns c = sym (first_cut _ _ _ _ (omega arith))
 
 returns-2 : tie.Need-returns-2
 returns-2 c = sym (first-whole _ _ _ _ (omega arith))

@@ -6,21 +6,21 @@ use mathlib.Core.Path.{sym}
 use native.Mathlib.Nat.{mul-le-mul}
 use native.Mathlib.Omega.{arith}
 use borrow.Author.Rules.{rules}
-use Rattle.paper.specs.Limits.{small, mostEngines, mostDuties, mostTicks, tableLength}
-use Rattle.sa1_runs.specs.Laying.{unitsTo}
-use Rattle.sa1_runs.proofs.Fitting.{fitted-7, fitted-8, fitted-all}
+use Rattle.paper.specs.Limits.{small, most_engines, most_duties, most_ticks, table_length}
+use Rattle.sa1_runs.specs.Laying.{units_to}
+use Rattle.sa1_runs.proofs.Fitting.{fitted_7, fitted_8, fitted_all}
 use Rattle.sa1_runs.proofs.fit_table.Statement.{statement}
 use Rattle.sa1_runs.proofs.fit_table.Tie as tie
 
 -- the bytes that the table needs
 abbrev needed : tie.Start → ℕ
-needed s = tableLength small s.args.duties s.args.runs
+needed s = table_length small s.args.duties s.args.runs
 
 -- the units of the engines, and those of the rows
-have : (s : tie.Start) → s.args.engines * s.args.t ≤ mostEngines * mostTicks
+have : (s : tie.Start) → s.args.engines * s.args.t ≤ most_engines * most_ticks
 have s = mul-le-mul s.requires.0.1 s.requires.0.0
 
-rows : (s : tie.Start) → s.args.end.row.0 * s.args.t ≤ mostDuties * mostTicks
+rows : (s : tie.Start) → s.args.end.row.0 * s.args.t ≤ most_duties * most_ticks
 rows s = mul-le-mul s.requires.0.3 s.requires.0.0
 
 mul-if1 : tie.Need-overflow-mul-if1
@@ -36,7 +36,7 @@ returns : tie.Need-returns
 returns c =
     let s = c.before.before.before in
     let a = s.args in
-    sym (fitted-7 (a.engines * a.t) (unitsTo a.t a.end) (needed s) a.room (search rules))
+    sym (fitted_7 (a.engines * a.t) (units_to a.t a.end) (needed s) a.room (search rules))
 
 mul-needed : tie.Need-overflow-mul-needed
 mul-needed c = omega arith
@@ -57,13 +57,13 @@ returns-2 : tie.Need-returns-2
 returns-2 c =
     let s = c.before.before.before.before in
     let a = s.args in
-    sym (fitted-8 (a.engines * a.t) (unitsTo a.t a.end) (needed s) a.room (search rules) (search rules))
+    sym (fitted_8 (a.engines * a.t) (units_to a.t a.end) (needed s) a.room (search rules) (search rules))
 
 returns-3 : tie.Need-returns-3
 returns-3 c =
     let s = c.before.before.before.before in
     let a = s.args in
-    sym (fitted-all (a.engines * a.t) (unitsTo a.t a.end) (needed s) a.room (search rules) (search rules))
+    sym (fitted_all (a.engines * a.t) (units_to a.t a.end) (needed s) a.room (search rules) (search rules))
 
 pub fit-table-spec : {M : Type 1} → statement M
 fit-table-spec =

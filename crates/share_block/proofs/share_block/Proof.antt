@@ -4,28 +4,28 @@ use Prim.Native.Nat.{ℕ, ◌+◌, ◌*◌}
 use mathlib.Core.Path.{◌≡◌, sym, ap, ◌∙◌}
 use lib.ListN.{length}
 use borrow.Author.Rules.{rules}
-use Rattle.paper.specs.Wanted.{dutiesOf}
-use Rattle.plan_laws.proofs.Planned.{length-duties}
-use Rattle.share_block.proofs.Going.{free-is, short-is}
+use Rattle.paper.specs.Wanted.{duties_of}
+use Rattle.plan_laws.proofs.Planned.{length_duties}
+use Rattle.share_block.proofs.Going.{free_is, short_is}
 use Rattle.share_block.proofs.share_block.Statement.{statement}
 use Rattle.share_block.proofs.share_block.Tie as tie
 
 room-in-block-requires : tie.Need-room-in-block-requires
 room-in-block-requires c κs =
     let h = c.before.before.before.before.before.before.before.requires.0 in
-    (h.0.ticks-most, h.1, h.0.paired.few)
+    (h.0.ticks_most, h.1, h.0.paired.few)
 
 -- the units that the engines have, with the duties counted in
 have :
     (s : tie.Start) → s.args.engines * s.args.t + length s.args.services.now
-    ≡ s.args.engines * s.args.t + length (dutiesOf s.args.services.now s.args.periods.now)
-have s = ap (λ (k : ℕ). s.args.engines * s.args.t + k) (sym (length-duties s.args.services.now s.args.periods.now))
+    ≡ s.args.engines * s.args.t + length (duties_of s.args.services.now s.args.periods.now)
+have s = ap (λ (k : ℕ). s.args.engines * s.args.t + k) (sym (length_duties s.args.services.now s.args.periods.now))
 
 find-cut-requires : tie.Need-find-cut-requires
 find-cut-requires c κs =
     let at_room = c.before.before in
     let s = at_room.before.before.before.before.before.before.before.before in
-    let left = at_room.room_in_block.ensures.0 ∙ free-is _ _ _ _ (have s) s.requires.1.1.sum in
+    let left = at_room.room_in_block.ensures.0 ∙ free_is _ _ _ _ (have s) s.requires.1.1.sum in
     ((s.requires.0.0, s.requires.1.1.needs), left)
 
 share-by-cut-requires : tie.Need-share-by-cut-requires
@@ -41,7 +41,7 @@ returns c =
     let at-room-in-block = at-find-cut.before.before.before in
     let s = at-room-in-block.before.before.before.before.before.before.before.before in
     let turns = at-share-by-cut.share-by-cut.ensures in
-    let short = short-is _ _ _ _ (have s) s.requires.1.1.sum _ _ turns.1.0 at-room-in-block.room_in_block.ensures.1 in
+    let short = short_is _ _ _ _ (have s) s.requires.1.1.sum _ _ turns.1.0 at-room-in-block.room_in_block.ensures.1 in
     (turns.0, (short, (turns.1.1, at-find-cut.find-cut.ensures)))
 
 pub share-block-spec : {M : Type 1} → statement M

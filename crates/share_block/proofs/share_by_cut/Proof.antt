@@ -7,9 +7,9 @@ use native.Mathlib.Nat.{lt_of_lt_of_le}
 use native.Mathlib.Omega.{arith}
 use borrow.Author.Rules.{rules}
 use lib.ListN.{length}
-use Rattle.plan_laws.proofs.Planned.{length-duties, duty-is}
-use Rattle.share_block.specs.Paced.{sharingBy}
-use Rattle.share_block.proofs.Going.{Going, turn-taken, going-none, going_more, going-paced, going-lacked, going-written}
+use Rattle.plan_laws.proofs.Planned.{length_duties, duty_is}
+use Rattle.share_block.specs.Paced.{sharing_by}
+use Rattle.share_block.proofs.Going.{Going, turn_taken, going_none, going_more, going_paced, going_lacked, going_written}
 use Rattle.share_block.proofs.Going.{ready, long_as}
 use Rattle.share_block.proofs.share_by_cut.Statement.{statement}
 use Rattle.share_block.proofs.share_by_cut.Tie as tie
@@ -23,7 +23,7 @@ fewer h = omega arith
 
 abbrev invariant-loop : tie.invariant-loop
 invariant-loop t engines services periods rate rest block cut whole₀ part₀ units₀ next₀ lacking₀ i₀ whole part units next lacking i =
-    Going (sharingBy t engines services periods) block (length services) units₀ i whole part units next lacking
+    Going (sharing_by t engines services periods) block (length services) units₀ i whole part units next lacking
     × (length periods ≡ length services) × (length rate ≡ length services) × (length rest ≡ length services)
     × (length whole₀ ≡ length services) × (length part₀ ≡ length services)
 
@@ -34,10 +34,10 @@ decreases-loop t engines services periods rate rest block cut whole₀ part₀ u
 loop-holds : tie.Need-loop-init invariant-loop decreases-loop
 loop-holds c =
     let s = c.before.before.before.before.before.before.before in
-    let n = sym (length-duties s.args.services.now s.args.periods.now) in
+    let n = sym (length_duties s.args.services.now s.args.periods.now) in
     let rated = s.requires.1.0 in
     let needed = s.requires.1.1.0 in (
-      going-none _ _ _ _ _ _ n s.requires.0.1 needed,
+      going_none _ _ _ _ _ _ n s.requires.0.1 needed,
       sym s.requires.0.0.paired.same,
       long_as _ _ _ _ rated.rates n,
       long_as _ _ _ _ rated.rests n,
@@ -93,8 +93,8 @@ take-turn-requires c κs =
     let loop = at-loop-test.before.loop in
     let l = at-loop-test.loop-test.true in
     let h = s.pre.0.0.ranged loop.i l in
-    let d = ap (λ x. x.period) (duty-is s.args.services.now s.args.periods.now loop.i l) in
-    ready _ _ _ loop.invariant.0 l s.pre.1.0 h (sym d) s.pre.0.0.ticks-most
+    let d = ap (λ x. x.period) (duty_is s.args.services.now s.args.periods.now loop.i l) in
+    ready _ _ _ loop.invariant.0 l s.pre.1.0 h (sym d) s.pre.0.0.ticks_most
 
 mul-units : tie.Need-overflow-mul-units invariant-loop decreases-loop
 mul-units c =
@@ -124,7 +124,7 @@ add-next c =
     let at-loop-test = c.before.before.before.before.before.before.before in
     let fit = (begun at-loop-test).requires.0.0 in
     let going = at-loop-test.before.loop.invariant.0 in
-    omega (arith, going.most, going.within, c.before.take-turn.ensures.1.0.1, fit.ticks-most, fit.paired.few)
+    omega (arith, going.most, going.within, c.before.take-turn.ensures.1.0.1, fit.ticks_most, fit.paired.few)
 
 add-lacking : tie.Need-overflow-add-lacking invariant-loop decreases-loop
 add-lacking c =
@@ -150,10 +150,10 @@ loop-again c =
     let loop = at-loop-test.before.loop in
     let below = at-loop-test.loop-test.true in
     let turn = c.before.before.take-turn.ensures in
-    let d = ap (λ x. x.period) (duty-is s.args.services.now s.args.periods.now loop.i below) in
-    let taken = turn-taken _ _ _ _ _ _ _ _ loop.invariant.0 below s.pre.1.0 (sym d) s.pre.1.1.1
+    let d = ap (λ x. x.period) (duty_is s.args.services.now s.args.periods.now loop.i below) in
+    let taken = turn_taken _ _ _ _ _ _ _ _ loop.invariant.0 below s.pre.1.0 (sym d) s.pre.1.1.1
     turn.0 turn.1.0.0 turn.1.1.0 turn.1.1.1.0 in
-    let more = going_more _ _ _ _ loop.invariant.0 below taken turn.1.0.1 s.pre.0.0.ticks-most turn.1.1.1.1 in
+    let more = going_more _ _ _ _ loop.invariant.0 below taken turn.1.0.1 s.pre.0.0.ticks_most turn.1.1.1.1 in
     (more, loop.invariant.1, loop.invariant.2, loop.invariant.3, loop.invariant.4, loop.invariant.5)
 
 same_length : tie.Need-same-length invariant-loop decreases-loop
@@ -169,7 +169,7 @@ returns : tie.Need-returns invariant-loop decreases-loop
 returns c =
     let going = c.before.loop.invariant.0 in
     let past = c.loop-test.false in
-    (going-paced going past, (going-lacked going past, going-written going past))
+    (going_paced going past, (going_lacked going past, going_written going past))
 
 pub share-by-cut-spec : {M : Type 1} → statement M
 share-by-cut-spec =

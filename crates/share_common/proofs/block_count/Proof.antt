@@ -11,7 +11,7 @@ use Rattle.share_common.proofs.block_count.Tie as tie
 common-of-requires : tie.Need-common-of-requires
 common-of-requires c κs =
     let s = c.before.before in
-    (s.requires.0.ticks-least, s.requires.0.ticks-most, positive s.args.t s.args.engines _ _ s.requires.0)
+    (s.requires.0.ticks_least, s.requires.0.ticks_most, positive s.args.t s.args.engines _ _ s.requires.0)
 
 returns : tie.Need-returns
 returns c =

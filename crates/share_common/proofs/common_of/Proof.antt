@@ -8,21 +8,21 @@ use native.Mathlib.Omega.{arith}
 use borrow.Author.Rules.{rules}
 use borrow.Author.Tests.{lt-ltb, le-ltb}
 use lib.ListN.{length, drop}
-use Rattle.laws.specs.Divisor.{lcm, lcmOf}
-use Rattle.laws.proofs.Multiple.{lcm-left, lcmOf-positive, lcm-start, lcm-further, lcm-finished}
-use Rattle.paper.specs.Limits.{mostShareBlocks}
+use Rattle.laws.specs.Divisor.{lcm, lcm_of}
+use Rattle.laws.proofs.Multiple.{lcm_left, lcm_of_positive, lcm-start, lcm_further, lcm-finished}
+use Rattle.paper.specs.Limits.{most_share_blocks}
 use Rattle.share_common.proofs.common_of.Statement.{statement}
 use Rattle.share_common.proofs.common_of.Tie as tie
 
 abbrev invariant-loop : tie.invariant-loop
 invariant-loop t periods most common₀ i₀ common i =
-    (i ≤ length periods) × (0 < common) × (common ≤ mostShareBlocks * t) × (lcm common (lcmOf (drop i periods)) ≡ lcmOf periods)
+    (i ≤ length periods) × (0 < common) × (common ≤ most_share_blocks * t) × (lcm common (lcm_of (drop i periods)) ≡ lcm_of periods)
 
 abbrev decreases-loop : tie.decreases-loop
 decreases-loop t periods most common₀ i₀ common i = length periods - i
 
 loop-holds : tie.Need-loop-init invariant-loop decreases-loop
-loop-holds c = (search rules, omega arith, search rules, lcm-start (lcmOf c.before.args.periods.now))
+loop-holds c = (search rules, omega arith, search rules, lcm-start (lcm_of c.before.args.periods.now))
 
 -- where the function began
 abbrev begun : tie.In-loop invariant-loop decreases-loop → tie.Start invariant-loop decreases-loop
@@ -31,26 +31,26 @@ begun c = c.before.before.before
 -- the next multiple, with what is left after it, is that of them all
 next :
     (c : tie.After-multiple-of invariant-loop decreases-loop) → let periods = (begun c.before.before).args.periods.now in
-    lcm c.multiple-of.result (lcmOf (drop (c.before.before.before.loop.i + 1) periods)) ≡ lcmOf periods
+    lcm c.multiple-of.result (lcm_of (drop (c.before.before.before.loop.i + 1) periods)) ≡ lcm_of periods
 next c =
     let loop = c.before.before.before.loop in
     let periods = (begun c.before.before).args.periods.now in
-    rw c.multiple-of.ensures (lcm-further loop.common loop.i periods (search rules)) ∙ loop.invariant.3
+    rw c.multiple-of.ensures (lcm_further loop.common loop.i periods (search rules)) ∙ loop.invariant.3
 
 -- so it divides that one, which is not 0
-divides : (c : tie.After-multiple-of invariant-loop decreases-loop) → c.multiple-of.result ∣ lcmOf (begun c.before.before).args.periods.now
+divides : (c : tie.After-multiple-of invariant-loop decreases-loop) → c.multiple-of.result ∣ lcm_of (begun c.before.before).args.periods.now
 divides c =
     let left = drop (c.before.before.before.loop.i + 1) (begun c.before.before).args.periods.now in
-    rw (next c) at (lcm-left c.multiple-of.result (lcmOf left))
+    rw (next c) at (lcm_left c.multiple-of.result (lcm_of left))
 
-positive : (c : tie.After-multiple-of invariant-loop decreases-loop) → 0 < lcmOf (begun c.before.before).args.periods.now
-positive c = lcmOf-positive (begun c.before.before).args.periods.now (begun c.before.before).pre.2
+positive : (c : tie.After-multiple-of invariant-loop decreases-loop) → 0 < lcm_of (begun c.before.before).args.periods.now
+positive c = lcm_of_positive (begun c.before.before).args.periods.now (begun c.before.before).pre.2
 
 returns : tie.Need-returns invariant-loop decreases-loop
 returns c =
     let s = begun c.before.before.before in
     let within = le_of_dvd (positive c.before) (divides c.before) in
-    rw (lt-ltb (mostShareBlocks * s.args.t) (lcmOf s.args.periods.now) (omega (arith, within, c.if1.true)))
+    rw (lt-ltb (most_share_blocks * s.args.t) (lcm_of s.args.periods.now) (omega (arith, within, c.if1.true)))
 
 cast-common : tie.Need-overflow-cast-common invariant-loop decreases-loop
 cast-common c = omega (arith, c.if1.false, (begun c.before.before.before).pre.1)
@@ -63,9 +63,9 @@ returns-2 : tie.Need-returns-2 invariant-loop decreases-loop
 returns-2 c =
     let s = c.before.before.before in
     let loop = c.before.loop in
-    let here : loop.common ≡ lcmOf s.args.periods.now =
+    let here : loop.common ≡ lcm_of s.args.periods.now =
     sym (lcm-finished loop.common loop.i s.args.periods.now (search rules)) ∙ loop.invariant.3 in
-    rw (le-ltb (mostShareBlocks * s.args.t) (lcmOf s.args.periods.now) (omega (arith, here, loop.invariant.2))) here
+    rw (le-ltb (most_share_blocks * s.args.t) (lcm_of s.args.periods.now) (omega (arith, here, loop.invariant.2))) here
 
 pub common-of-spec : {M : Type 1} → statement M
 common-of-spec =

@@ -5,13 +5,13 @@ use mathlib.Core.Path.{sym}
 use native.Mathlib.Nat.{mul-le-mul, div-le_self, pos_of_dvd_of_pos}
 use native.Mathlib.Omega.{arith}
 use borrow.Author.Rules.{rules}
-use Rattle.laws.proofs.Divisor.{gcd-left}
-use Rattle.laws.proofs.Multiple.{lcm-is}
+use Rattle.laws.proofs.Divisor.{gcd_left}
+use Rattle.laws.proofs.Multiple.{lcm_is}
 use Rattle.share_common.proofs.multiple_of.Statement.{statement}
 use Rattle.share_common.proofs.multiple_of.Tie as tie
 
 div-result : tie.Need-nonzero-div-result
-div-result c = rw c.gcd-of.ensures (pos_of_dvd_of_pos (gcd-left c.before.args.a c.before.args.b) c.before.requires)
+div-result c = rw c.gcd-of.ensures (pos_of_dvd_of_pos (gcd_left c.before.args.a c.before.args.b) c.before.requires)
 
 cast-result : tie.Need-overflow-cast-result
 cast-result c = omega (arith, div-le_self c.before.args.a c.gcd-of.result)
@@ -25,7 +25,7 @@ mul-result c =
     omega (arith, mul-le-mul {n₂ = 2 ^ 32 - 1} {m₂ = 2 ^ 32 - 1} small other)
 
 returns : tie.Need-returns
-returns c = rw c.gcd-of.ensures (sym (lcm-is _ _))
+returns c = rw c.gcd-of.ensures (sym (lcm_is _ _))
 
 pub multiple-of-spec : {M : Type 1} → statement M
 multiple-of-spec = tie.close (tie.spec (λ c κs. search rules) div-result cast-result mul-result returns)

@@ -10,24 +10,24 @@ use lib.ListN.{length, get_or, drop}
 use lib.Seq.{drop-cons}
 use borrow.Author.Rules.{rules}
 use Rattle.paper.specs.declared.Held.TheVariants.{By}
-use Rattle.plan_laws.proofs.Line.{onLine, first-has, first-not, none_has}
+use Rattle.plan_laws.proofs.Line.{on_line, first_has, first_not, none_has}
 use Rattle.share_holder.proofs.held_at.Statement.{statement}
 use Rattle.share_holder.proofs.held_at.Tie as tie
 
 -- where `left` of the place p is left
-has : (ns : List ℕ) (i left p : ℕ) → i < length ns → left ≤ p → left < get_or ns i 0 → onLine (drop i ns) i (p - left) p ≡ By i
-has ns i left p l a h = rw (drop-cons ns i 0 l) (first-has (get_or ns i 0) (drop (suc i) ns) i (p - left) p (omega arith) (omega arith))
+has : (ns : List ℕ) (i left p : ℕ) → i < length ns → left ≤ p → left < get_or ns i 0 → on_line (drop i ns) i (p - left) p ≡ By i
+has ns i left p l a h = rw (drop-cons ns i 0 l) (first_has (get_or ns i 0) (drop (suc i) ns) i (p - left) p (omega arith) (omega arith))
 
 not : (ns : List ℕ) (i left p : ℕ) → i < length ns → left ≤ p → get_or ns i 0 ≤ left
-    → onLine (drop i ns) i (p - left) p ≡ onLine (drop (i + 1) ns) (i + 1) (p - (left - get_or ns i 0)) p
+    → on_line (drop i ns) i (p - left) p ≡ on_line (drop (i + 1) ns) (i + 1) (p - (left - get_or ns i 0)) p
 not ns i left p l a h =
     let e : p - left + get_or ns i 0 ≡ p - (left - get_or ns i 0) = omega arith in
     let d : drop (suc i) ns ≡ drop (i + 1) ns = rw add-one in
-    rw (drop-cons ns i 0 l, ← e, d) (first-not (get_or ns i 0) (drop (i + 1) ns) i (p - left) p (omega arith) (omega arith))
+    rw (drop-cons ns i 0 l, ← e, d) (first_not (get_or ns i 0) (drop (i + 1) ns) i (p - left) p (omega arith) (omega arith))
 
 abbrev invariant-loop : tie.invariant-loop
 invariant-loop units place left₀ i₀ left i =
-    (left ≤ place) × (i ≤ length units) × (onLine (drop i units) i (place - left) place ≡ onLine units 0 0 place)
+    (left ≤ place) × (i ≤ length units) × (on_line (drop i units) i (place - left) place ≡ on_line units 0 0 place)
 
 abbrev decreases-loop : tie.decreases-loop
 decreases-loop units place left₀ i₀ left i = length units - i

@@ -7,17 +7,17 @@ use native.Mathlib.Omega.{arith}
 use borrow.Author.Rules.{rules}
 use lib.ListN.{length}
 use Rattle.laws.proofs.Writing.{length-lent}
-use Rattle.plan_laws.proofs.Planned.{length-duties}
-use Rattle.paper.specs.Sa2.{needsAt}
+use Rattle.plan_laws.proofs.Planned.{length_duties}
+use Rattle.paper.specs.Sa2.{needs_at}
 use Rattle.share_laws.proofs.CutFinds.{cut_most}
-use Rattle.share_block.specs.Paced.{sharingBy}
-use Rattle.share_pass.proofs.Putting.{Putting, putting-none, putting-room, putting-more, putting-end}
+use Rattle.share_block.specs.Paced.{sharing_by}
+use Rattle.share_pass.proofs.Putting.{Putting, putting_none, putting_room, putting_more, putting_end}
 use Rattle.share_pass.proofs.put_blocks.Statement.{statement}
 use Rattle.share_pass.proofs.put_blocks.Tie as tie
 
 abbrev invariant-loop : tie.invariant-loop
 invariant-loop t engines services periods rate rest blocks cuts whole₀ part₀ list₀ at₀ b₀ whole part list at b =
-    Putting (sharingBy t engines services periods) blocks list₀ b at whole part list
+    Putting (sharing_by t engines services periods) blocks list₀ b at whole part list
     × (length whole ≡ length whole₀) × (length part ≡ length part₀) × (length list ≡ length list₀)
 
 abbrev decreases-loop : tie.decreases-loop
@@ -26,7 +26,7 @@ decreases-loop t engines services periods rate rest blocks cuts whole₀ part₀
 loop-holds : tie.Need-loop-init invariant-loop decreases-loop
 loop-holds c =
     let s = c.before.before.before.before.before.before.before.before in
-    (putting-none _ _ _ _ _ s.requires.1.1.0, refl, refl, refl)
+    (putting_none _ _ _ _ _ s.requires.1.1.0, refl, refl, refl)
 
 -- where the function began, from inside the loop
 abbrev begun : tie.In-loop invariant-loop decreases-loop → tie.Start invariant-loop decreases-loop
@@ -40,9 +40,9 @@ cast-cut-2 c =
     let s = begun c.before in
     let b = c.before.before.loop.b in
     let is = s.pre.1.1.1 b (omega arith) c.before.loop-test.true in
-    let plan = sharingBy s.args.t s.args.engines s.args.services.now s.args.periods.now in
-    let most = cut_most plan (needsAt plan b) in
-    omega (arith, is, most, length-duties s.args.services.now s.args.periods.now, s.pre.0.0.paired.few)
+    let plan = sharing_by s.args.t s.args.engines s.args.services.now s.args.periods.now in
+    let most = cut_most plan (needs_at plan b) in
+    omega (arith, is, most, length_duties s.args.services.now s.args.periods.now, s.pre.0.0.paired.few)
 
 -- the next block has room, so its place is in the list
 room :
@@ -50,8 +50,8 @@ room :
     loop.at + length (begun c).args.services.now ≤ length loop.list
 room c =
     let s = begun c in
-    let n = sym (length-duties s.args.services.now s.args.periods.now) in
-    putting-room _ c.before.loop.invariant.0 c.loop-test.true n s.pre.0.2
+    let n = sym (length_duties s.args.services.now s.args.periods.now) in
+    putting_room _ c.before.loop.invariant.0 c.loop-test.true n s.pre.0.2
 
 placed : (c : tie.In-loop invariant-loop decreases-loop) → let loop = c.before.loop in loop.at ≤ length loop.list
 placed c = omega (arith, room c)
@@ -86,13 +86,13 @@ loop-again c =
     let at-share = c.before.before.before.before.before.before in
     let at-loop-test = at-share.before.before.before.before.before in
     let s = begun at-loop-test in
-    let n = sym (length-duties s.args.services.now s.args.periods.now) in
+    let n = sym (length_duties s.args.services.now s.args.periods.now) in
     let share = at-share.share-by-cut.ensures in
-    let more = putting-more _ _ _ _ at-loop-test.before.loop.invariant.0 (search rules) n share.0.needs share.1.1 (search rules) in
+    let more = putting_more _ _ _ _ at-loop-test.before.loop.invariant.0 (search rules) n share.0.needs share.1.1 (search rules) in
     (more, search rules, search rules, search rules)
 
 returns : tie.Need-returns invariant-loop decreases-loop
-returns c = putting-end c.before.loop.invariant.0 (search rules)
+returns c = putting_end c.before.loop.invariant.0 (search rules)
 
 pub put-blocks-spec : {M : Type 1} → statement M
 put-blocks-spec =

@@ -3,8 +3,8 @@
 use borrow.Author.Rules.{rules}
 use lib.ListN.{length}
 use Rattle.paper.specs.Wanted.{Wanted, wanted}
-use Rattle.share_plan.proofs.FromBlocks.{gives-refused, gives_same}
-use Rattle.share_plan.proofs.FromTests.{known-blocks, none-listed, listed-from}
+use Rattle.share_plan.proofs.FromBlocks.{gives_refused, gives_same}
+use Rattle.share_plan.proofs.FromTests.{known_blocks, none_listed, listed_from}
 use Rattle.share_plan.proofs.build_shares.Statement.{statement}
 use Rattle.share_plan.proofs.build_shares.Tie as tie
 
@@ -15,21 +15,21 @@ asked s = wanted s.args.engines s.args.services.now s.args.periods.now
 list-from-requires : tie.Need-list-from-requires
 list-from-requires c κs =
     let at = c.before.before.before.before in
-    known-blocks (asked at.before.before.before.before) at.measure-blocks.ensures _ c.before.before.measured2.given.1
+    known_blocks (asked at.before.before.before.before) at.measure-blocks.ensures _ c.before.before.measured2.given.1
 
 returns : tie.Need-returns
 returns c =
     let at = c.before.before.before in
     let s = at.before.before.before.before in
     let room = length s.args.list.now in
-    gives-refused _ _ _ (none-listed (asked s) at.measure-blocks.ensures _ c.before.decreases.given.1 room)
+    gives_refused _ _ _ (none_listed (asked s) at.measure-blocks.ensures _ c.before.decreases.given.1 room)
 
 returns-2 : tie.Need-returns-2
 returns-2 c =
     let known = c.before.before.before.before.before in
     let at = known.before.before in
     let s = at.before.before.before.before in
-    gives_same (listed-from (asked s) at.measure-blocks.ensures _ known.measured2.given.1 (length s.args.list.now))
+    gives_same (listed_from (asked s) at.measure-blocks.ensures _ known.measured2.given.1 (length s.args.list.now))
     c.before.before.list-from.ensures
 
 pub build-shares-spec : {M : Type 1} → statement M

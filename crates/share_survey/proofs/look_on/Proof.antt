@@ -1,7 +1,7 @@
 -- `look_on`: two passes one after the other.
 -- Assumes nothing.
 use native.Mathlib.Omega.{arith}
-use Rattle.share_survey.proofs.Found.{look-stopped, look-ended, look-further}
+use Rattle.share_survey.proofs.Found.{look_stopped, look_ended, look_further}
 use borrow.Author.Rules.{rules}
 use Rattle.share_survey.proofs.look_on.Statement.{statement}
 use Rattle.share_survey.proofs.look_on.Tie as tie
@@ -20,7 +20,7 @@ returns c =
     let at-pass-blocks = c.before.before.before.before.before.before.before.before.before.before in
     let s = begun at-pass-blocks.before in
     let first = at-pass-blocks.pass-blocks.ensures in
-    look-stopped first.0 first.1 (search rules) s.pre.0.2
+    look_stopped first.0 first.1 (search rules) s.pre.0.2
 
 pass-blocks-requires-2 : tie.Need-pass-blocks-requires-2
 pass-blocks-requires-2 c κs =
@@ -29,7 +29,7 @@ pass-blocks-requires-2 c κs =
     let s = begun at-pass-blocks.before in
     let first = at-pass-blocks.pass-blocks.ensures in (
       (s.pre.0.0, s.pre.0.1, s.pre.1.0.1, omega (arith, s.pre.0.2), search rules),
-      (s.pre.1.1.0, look-further first.0 at-if1.if1.false),
+      (s.pre.1.1.0, look_further first.0 at-if1.if1.false),
     )
 
 returns-2 : tie.Need-returns-2
@@ -39,7 +39,7 @@ returns-2 c =
     let at-pass-blocks = at-if1.before.before.before.before.before.before.before.before.before.before in
     let first = at-pass-blocks.pass-blocks.ensures in
     let second = at-pass-blocks2.pass-blocks2.ensures in
-    look-ended first.0 first.1 at-if1.if1.false second.0 second.1
+    look_ended first.0 first.1 at-if1.if1.false second.0 second.1
 
 pub look-on-spec : {M : Type 1} → statement M
 look-on-spec =

@@ -4,7 +4,7 @@ use mathlib.Core.Path.{sym, ◌∙◌}
 use native.Mathlib.Nat.{mod-eq_of_lt}
 use borrow.Author.Rules.{rules}
 use borrow.Author.Tests.{leb-true, leb-false}
-use Rattle.share_turn.proofs.Carry.{past-unit}
+use Rattle.share_turn.proofs.Carry.{past_unit}
 use Rattle.share_turn.proofs.part_of.Statement.{statement}
 use Rattle.share_turn.proofs.part_of.Tie as tie
 
@@ -12,7 +12,7 @@ sub-result : tie.Need-overflow-sub-result
 sub-result c = leb-true _ _ (sym c.before.requires.1 ∙ c.if1.true)
 
 returns : tie.Need-returns
-returns c = past-unit _ _ (sub-result c) (search rules)
+returns c = past_unit _ _ (sub-result c) (search rules)
 
 returns-2 : tie.Need-returns-2
 returns-2 c = sym (mod-eq_of_lt (leb-false _ _ (sym c.before.requires.1 ∙ c.if1.false)))

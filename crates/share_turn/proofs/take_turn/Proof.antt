@@ -5,9 +5,9 @@ use mathlib.Core.Path.{◌≡◌, ap, ◌∙◌}
 use mathlib.Core.Bool.{Bool, ◌&&◌}
 use lib.Dec.{ltb, eqb}
 use borrow.Author.Rules.{rules}
-use Rattle.laws.specs.Choice.{one-if}
-use Rattle.share_turn.specs.Taking.{chosenBy}
-use Rattle.share_turn.proofs.Carry.{one-there, units-by, next-whole, next-part}
+use Rattle.laws.specs.Choice.{one_if}
+use Rattle.share_turn.specs.Taking.{chosen_by}
+use Rattle.share_turn.proofs.Carry.{one_there, units_by, next_whole, next_part}
 use Rattle.share_turn.proofs.take_turn.Statement.{statement}
 use Rattle.share_turn.proofs.take_turn.Tie as tie
 
@@ -24,7 +24,7 @@ one-if-requires-2 : tie.Need-one-if-requires-2
 one-if-requires-2 c κs = search rules
 
 sub-units : tie.Need-overflow-sub-units
-sub-units c = rw c.one-if2.ensures.0 (one-there _)
+sub-units c = rw c.one-if2.ensures.0 (one_there _)
 
 add-sum : tie.Need-overflow-add-sum
 add-sum c = search rules
@@ -55,15 +55,15 @@ returns c =
     let at-one-if = at-one-if2.before in
     let at-wants-more = at-one-if.before in
     let s = at-wants-more.before.args in
-    let chosen = chosenBy s.t s.whole s.part s.place s.cut in
-    let took : at-one-if.one-if.result ≡ one-if chosen =
-    at-one-if.one-if.ensures.0 ∙ ap (λ (b : Bool). one-if (b && ltb s.place s.cut)) at-wants-more.wants-more.ensures in
+    let chosen = chosen_by s.t s.whole s.part s.place s.cut in
+    let took : at-one-if.one_if.result ≡ one_if chosen =
+    at-one-if.one_if.ensures.0 ∙ ap (λ (b : Bool). one_if (b && ltb s.place s.cut)) at-wants-more.wants-more.ensures in
     let got = at-one-if2.one-if2.ensures.0 in
     let carry = at-one-if3.one-if3.ensures.0 in
-    let units = units-by s.whole _ _ chosen took got in
-    let whole = next-whole s.period s.rate s.rest s.part chosen _ _ carry took (search rules) in
-    let part = at-part-of.part_of.ensures ∙ next-part s.period s.rate s.rest s.part chosen (search rules) in
-    let lacking = c.one-if4.ensures.0 ∙ ap (λ (k : ℕ). one-if (eqb (s.whole + k) 0)) took in
+    let units = units_by s.whole _ _ chosen took got in
+    let whole = next_whole s.period s.rate s.rest s.part chosen _ _ carry took (search rules) in
+    let part = at-part-of.part_of.ensures ∙ next_part s.period s.rate s.rest s.part chosen (search rules) in
+    let lacking = c.one-if4.ensures.0 ∙ ap (λ (k : ℕ). one_if (eqb (s.whole + k) 0)) took in
     (units, ((whole, search rules), (part, (lacking, c.one-if4.ensures.1))))
 
 pub take-turn-spec : {M : Type 1} → statement M

@@ -4,7 +4,7 @@ use mathlib.Core.Path.{◌≡◌, refl, sym, ap, ◌∙◌}
 use native.Mathlib.Nat.{mod-lt}
 use native.Mathlib.Omega.{arith}
 use Rattle.laws.specs.Divisor.{gcd}
-use Rattle.laws.proofs.Divisor.{gcd-zero, gcd-step}
+use Rattle.laws.proofs.Divisor.{gcd-zero, gcd_step}
 use Rattle.slices.proofs.gcd_of.Statement.{statement}
 use Rattle.slices.proofs.gcd_of.Tie as tie
 
@@ -25,7 +25,7 @@ loop-less : tie.Need-loop-smaller invariant-loop decreases-loop
 loop-less c = mod-lt c.before.loop.x (omega arith)
 
 loop-again : tie.Need-loop-preserved invariant-loop decreases-loop
-loop-again c = sym (gcd-step c.before.loop.x c.before.loop.y (omega arith)) ∙ c.before.loop.invariant
+loop-again c = sym (gcd_step c.before.loop.x c.before.loop.y (omega arith)) ∙ c.before.loop.invariant
 
 returns : tie.Need-returns invariant-loop decreases-loop
 returns c =

@@ -4,19 +4,19 @@ use mathlib.Core.Path.{◌≡◌, sym, ◌∙◌}
 use Prim.Native.Nat.{◌≤◌, ◌-◌}
 use borrow.Author.Rules.{rules}
 use lib.ListN.{length, drop}
-use Rattle.laws.specs.Divisor.{gcd, gcdOf}
-use Rattle.laws.proofs.Divisor.{gcd-start, gcd-further, gcd-finished}
+use Rattle.laws.specs.Divisor.{gcd, gcd_of}
+use Rattle.laws.proofs.Divisor.{gcd-start, gcd_further, gcd-finished}
 use Rattle.slices.proofs.gcd_of_all.Statement.{statement}
 use Rattle.slices.proofs.gcd_of_all.Tie as tie
 
 abbrev invariant-loop : tie.invariant-loop
-invariant-loop periods g₀ i₀ g i = (i ≤ length periods) × (gcd g (gcdOf (drop i periods)) ≡ gcdOf periods)
+invariant-loop periods g₀ i₀ g i = (i ≤ length periods) × (gcd g (gcd_of (drop i periods)) ≡ gcd_of periods)
 
 abbrev decreases-loop : tie.decreases-loop
 decreases-loop periods g₀ i₀ g i = length periods - i
 
 loop-holds : tie.Need-loop-init invariant-loop decreases-loop
-loop-holds c = (search rules, gcd-start (gcdOf c.before.args.periods.now))
+loop-holds c = (search rules, gcd-start (gcd_of c.before.args.periods.now))
 
 mul-gcd-of : tie.Need-overflow-mul-gcd-of invariant-loop decreases-loop
 mul-gcd-of c = search rules
@@ -38,7 +38,7 @@ loop-again c =
     let periods = c.before.before.before.before.before.args.periods.now in
     let i = c.before.before.before.loop.i in (
       search rules,
-      rw c.gcd-of.ensures (gcd-further c.before.before.before.loop.g i periods (search rules))
+      rw c.gcd-of.ensures (gcd_further c.before.before.before.loop.g i periods (search rules))
           ∙ c.before.before.before.loop.invariant.1,
     )
 

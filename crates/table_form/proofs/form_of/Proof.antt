@@ -8,11 +8,11 @@ use native.Mathlib.Omega.{arith}
 use borrow.Author.Rules.{rules}
 use borrow.Author.Tests.{lt-ltb, le-ltb, not-false}
 use Rattle.paper.specs.Limits.{small}
-use Rattle.paper.specs.Bytes.{dutiesIn, headGood, after_head, parse}
+use Rattle.paper.specs.Bytes.{duties_in, head_good, after_head, parse}
 use Rattle.paper.specs.Outcome.{answer, and_then}
 use Rattle.paper.specs.Rules.{reading_of}
-use Rattle.paper.proofs.Passed.{HeadTold, head-told}
-use Rattle.table_laws.proofs.Forms.{head-bad, head-good, duty-bad, duties-good}
+use Rattle.paper.proofs.Passed.{HeadTold, head_told}
+use Rattle.table_laws.proofs.Forms.{head_bad, head_good_lem, duty_bad, duties_good}
 use Rattle.table_form.proofs.form_of.Statement.{statement}
 use Rattle.table_form.proofs.form_of.Tie as tie
 
@@ -20,16 +20,16 @@ head-good-requires : tie.Need-head-good-requires
 head-good-requires c κs = search rules
 
 -- the head's test, as the definition has it
-tested : (b : List ℕ) {good r : Bool} → good ≡ headGood small b → not good ≡ r → not (headGood small b) ≡ r
+tested : (b : List ℕ) {good r : Bool} → good ≡ head_good small b → not good ≡ r → not (head_good small b) ≡ r
 tested b p h = rw (← p) h
 
 returns : tie.Need-returns
 returns c = sym (ap (λ o. and_then o (λ t. answer (reading_of t)))
-    (head-bad small _ (tested _ c.before.head-good.ensures c.if1.true)))
+    (head_bad small _ (tested _ c.before.head_good_lem.ensures c.if1.true)))
 
 -- the head is good
 head : (c : tie.Else1) → HeadTold small c.before.before.before.args.b.now
-head c = head-told small _ (sym c.before.head-good.ensures ∙ not-false _ c.if1.false)
+head c = head_told small _ (sym c.before.head_good_lem.ensures ∙ not-false _ c.if1.false)
 
 read-head-requires : tie.Need-read-head-requires
 read-head-requires c κs = omega (arith, head c)
@@ -46,9 +46,9 @@ duty-place-requires c κs =
     omega (arith, head known.before, known.read_head.ensures)
 
 -- what is left after the head, by its duties
-after-head : (c : tie.Else1) (n : ℕ) → n ≡ dutiesIn small c.before.before.before.args.b.now
+after-head : (c : tie.Else1) (n : ℕ) → n ≡ duties_in small c.before.before.before.args.b.now
     → parse small c.before.before.before.args.b.now ≡ after_head small c.before.before.before.args.b.now n
-after-head c n e = rw e (head-good small _ (tested _ c.before.head-good.ensures c.if1.false))
+after-head c n e = rw e (head_good_lem small _ (tested _ c.before.head_good_lem.ensures c.if1.false))
 
 returns-2 : tie.Need-returns-2
 returns-2 c =
@@ -57,7 +57,7 @@ returns-2 c =
     let n = known.read_head.ensures.2 in
     rw (
       after-head known.before _ n,
-      duty-bad small _ _ (rw found at (lt-ltb _ _ c.before.if2.true)),
+      duty_bad small _ _ (rw found at (lt-ltb _ _ c.before.if2.true)),
       ← found,
       c.duty-place.ensures,
     )
@@ -72,7 +72,7 @@ returns-3 c =
     let known = c.before.before.before.before in
     let found = c.before.before.bad-duty.ensures in
     let n = known.read_head.ensures.2 in
-    rw (after-head known.before _ n, duties-good small _ _ (rw found at (le-ltb _ _ c.before.if2.false))) c.form-of-runs.ensures
+    rw (after-head known.before _ n, duties_good small _ _ (rw found at (le-ltb _ _ c.before.if2.false))) c.form-of-runs.ensures
 
 pub form-of-spec : {M : Type 1} → statement M
 form-of-spec =

@@ -7,10 +7,10 @@ use mathlib.Core.Bool.{Bool, not}
 use lib.ListN.{length}
 use borrow.Author.Rules.{rules}
 use borrow.Author.Tests.{lt-ltb, le-ltb}
-use Rattle.paper.specs.Limits.{small, endLength}
-use Rattle.paper.specs.Bytes.{endGood, runPlace}
-use Rattle.table_laws.proofs.Forms.{end-bad, more_bytes, all-good}
-use Rattle.record_read.proofs.Table.{reading-in}
+use Rattle.paper.specs.Limits.{small, end_length}
+use Rattle.paper.specs.Bytes.{end_good, run_place}
+use Rattle.table_laws.proofs.Forms.{end_bad, more_bytes, all_good}
+use Rattle.record_read.proofs.Table.{reading_in_lem}
 use Rattle.table_form.proofs.form_of_runs.Statement.{statement}
 use Rattle.table_form.proofs.form_of_runs.Tie as tie
 
@@ -27,8 +27,8 @@ end-good-requires : tie.Need-end-good-requires
 end-good-requires c κs = search rules
 
 -- the test of the end record, as the definition has it
-tested : (b : List ℕ) (n k : ℕ) {at : ℕ} {good r : Bool} → at ≡ runPlace small n k → good ≡ endGood b at k → not good ≡ r
-    → not (endGood b (runPlace small n k) k) ≡ r
+tested : (b : List ℕ) (n k : ℕ) {at : ℕ} {good r : Bool} → at ≡ run_place small n k → good ≡ end_good b at k → not good ≡ r
+    → not (end_good b (run_place small n k) k) ≡ r
 tested b n k p q h = rw (← p, ← q) h
 
 returns : tie.Need-returns
@@ -37,7 +37,7 @@ returns c =
     let at = c.before.before.run-place.ensures in
     rw (
       ← good-runs.ensures.0,
-      end-bad small _ _ _
+      end_bad small _ _ _
           (tested _ _ _ at c.before.end-good.ensures c.if1.true),
       at,
     )
@@ -50,7 +50,7 @@ returns-2 c =
     let start = c.before.before.before.before.before.before.before in
     let good-runs = c.before.before.before.before.before.good-runs in
     let at = c.before.before.before.run-place.ensures in
-    let more = lt-ltb (c.before.before.before.run-place.result + endLength)
+    let more = lt-ltb (c.before.before.before.run-place.result + end_length)
     (length start.args.b.now) (search rules) in
     rw (
       ← good-runs.ensures.0,
@@ -68,12 +68,12 @@ returns-3 c =
     let good-runs = c.before.before.before.before.before.good-runs in
     let at = c.before.before.before.run-place.ensures in
     let head = c.before.before.before.before.before.before.before.requires.0 in
-    let no_more = le-ltb (c.before.before.before.run-place.result + endLength)
+    let no_more = le-ltb (c.before.before.before.run-place.result + end_length)
     (length start.args.b.now) (search rules) in
     rw (
       ← good-runs.ensures.0,
-      all-good small _ _ _ (tested _ _ _ at c.before.before.end-good.ensures c.before.if1.false) (rw at at no_more),
-      reading-in,
+      all_good small _ _ _ (tested _ _ _ at c.before.before.end-good.ensures c.before.if1.false) (rw at at no_more),
+      reading_in_lem,
       head.0,
       head.1,
     )

@@ -3,20 +3,20 @@
 use Prim.Native.Nat.{◌-◌}
 use mathlib.Core.Bool.{not}
 use borrow.Author.Rules.{rules}
-use Rattle.laws.proofs.Search.{Seeking, seek-none, seek-more, seek_hit, seek-miss}
-use Rattle.paper.specs.Limits.{small, mostRuns}
-use Rattle.paper.specs.Bytes.{runGood, goodRuns, runPlace}
+use Rattle.laws.proofs.Search.{Seeking, seek_none, seek_more, seek_hit, seek_miss}
+use Rattle.paper.specs.Limits.{small, most_runs}
+use Rattle.paper.specs.Bytes.{run_good, good_runs, run_place}
 use Rattle.table_form.proofs.good_runs.Statement.{statement}
 use Rattle.table_form.proofs.good_runs.Tie as tie
 
 abbrev invariant-loop : tie.invariant-loop
-invariant-loop b head k₀ k = Seeking (λ j. not (runGood small b (runPlace small head.duties j))) mostRuns k
+invariant-loop b head k₀ k = Seeking (λ j. not (run_good small b (run_place small head.duties j))) most_runs k
 
 abbrev decreases-loop : tie.decreases-loop
-decreases-loop b head k₀ k = mostRuns - k
+decreases-loop b head k₀ k = most_runs - k
 
 loop-holds : tie.Need-loop-init invariant-loop decreases-loop
-loop-holds c = seek-none _ _
+loop-holds c = seek_none _ _
 
 cast-run-place : tie.Need-overflow-cast-run-place invariant-loop decreases-loop
 cast-run-place c = search rules
@@ -44,11 +44,11 @@ loop-less c = search rules
 loop-again : tie.Need-loop-preserved invariant-loop decreases-loop
 loop-again c =
     let loop = c.before.before.before.before.before.loop in
-    seek-more loop.invariant (search rules)
+    seek_more loop.invariant (search rules)
     (rw (← c.before.before.run-place.ensures, ← c.before.run-good.ensures) c.if1.false)
 
 returns-2 : tie.Need-returns-2 invariant-loop decreases-loop
-returns-2 c = (seek-miss c.before.loop.invariant (search rules), search rules)
+returns-2 c = (seek_miss c.before.loop.invariant (search rules), search rules)
 
 pub good-runs-spec : {M : Type 1} → statement M
 good-runs-spec =

@@ -5,16 +5,16 @@ use mathlib.Core.List.{[], ◌∷◌}
 use native.Mathlib.Omega.{arith}
 use lib.ListN.{length}
 use borrow.Author.Rules.{rules}
-use Rattle.paper.specs.Limits.{chainLineRoom}
-use Rattle.paper.specs.Text.{chainLine, chainWord}
-use Rattle.line_print.proofs.Line.{line-most}
+use Rattle.paper.specs.Limits.{chain_line_room}
+use Rattle.paper.specs.Text.{chain_line, chain_word}
+use Rattle.line_print.proofs.Line.{line_most}
 use Rattle.table_lines.proofs.print_chain.Statement.{statement}
 use Rattle.table_lines.proofs.print_chain.Tie as tie
 
-fits : (s : tie.Start) → length (chainLine s.args.chain) ≤ chainLineRoom
+fits : (s : tie.Start) → length (chain_line s.args.chain) ≤ chain_line_room
 fits s =
     let chain = s.args.chain in
-    let short = line-most 1 chainWord (chain.first.0 ∷ chain.length ∷ []) in
+    let short = line_most 1 chain_word (chain.first.0 ∷ chain.length ∷ []) in
     omega (arith, short (omega (arith, s.requires), (omega (arith, s.requires), tt)))
 
 print-line-requires : tie.Need-print-line-requires

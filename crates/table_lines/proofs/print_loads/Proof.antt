@@ -5,15 +5,15 @@ use mathlib.Core.List.{[], ◌∷◌}
 use native.Mathlib.Omega.{arith}
 use lib.ListN.{length}
 use borrow.Author.Rules.{rules}
-use Rattle.paper.specs.Limits.{loadsLineRoom}
-use Rattle.paper.specs.Text.{printLine, loadsWord}
-use Rattle.line_print.proofs.Line.{line-most}
+use Rattle.paper.specs.Limits.{loads_line_room}
+use Rattle.paper.specs.Text.{print_line, loads_word}
+use Rattle.line_print.proofs.Line.{line_most}
 use Rattle.table_lines.proofs.print_loads.Statement.{statement}
 use Rattle.table_lines.proofs.print_loads.Tie as tie
 
-fits : (s : tie.Start) → length (printLine loadsWord (s.args.first ∷ s.args.later ∷ [])) ≤ loadsLineRoom
+fits : (s : tie.Start) → length (print_line loads_word (s.args.first ∷ s.args.later ∷ [])) ≤ loads_line_room
 fits s =
-    let short = line-most 6 loadsWord (s.args.first ∷ s.args.later ∷ []) in
+    let short = line_most 6 loads_word (s.args.first ∷ s.args.later ∷ []) in
     omega (arith, short (omega (arith, s.requires), (omega (arith, s.requires), tt)))
 
 print-line-requires : tie.Need-print-line-requires

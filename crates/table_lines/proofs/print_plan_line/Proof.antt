@@ -5,18 +5,18 @@ use mathlib.Core.List.{[], ◌∷◌}
 use native.Mathlib.Omega.{arith}
 use lib.ListN.{length}
 use borrow.Author.Rules.{rules}
-use Rattle.paper.specs.Limits.{planLineRoom}
-use Rattle.paper.specs.Text.{printLine, planWord}
-use Rattle.line_print.proofs.Line.{line-most}
+use Rattle.paper.specs.Limits.{plan_line_room}
+use Rattle.paper.specs.Text.{print_line, plan_word}
+use Rattle.line_print.proofs.Line.{line_most}
 use Rattle.table_lines.proofs.print_plan_line.Statement.{statement}
 use Rattle.table_lines.proofs.print_plan_line.Tie as tie
 
 fits : (s : tie.Start) →
     let rd = s.args.rd in
-    length (printLine planWord (rd.block_length ∷ rd.engines ∷ rd.duties ∷ [])) ≤ planLineRoom
+    length (print_line plan_word (rd.block_length ∷ rd.engines ∷ rd.duties ∷ [])) ≤ plan_line_room
 fits s =
     let rd = s.args.rd in
-    let short = line-most 6 planWord (rd.block_length ∷ rd.engines ∷ rd.duties ∷ []) in
+    let short = line_most 6 plan_word (rd.block_length ∷ rd.engines ∷ rd.duties ∷ []) in
     omega (arith, short (omega (arith, s.requires), (omega (arith, s.requires), (omega (arith, s.requires), tt))))
 
 print-line-requires : tie.Need-print-line-requires

@@ -6,34 +6,34 @@ use lib.ListN.{length}
 use borrow.Author.Rules.{rules}
 use native.Mathlib.Omega.{arith}
 use Rattle.laws.proofs.Writing.{length-lent}
-use Rattle.paper.specs.Limits.{runLinesRoom}
+use Rattle.paper.specs.Limits.{run_lines_room}
 use Rattle.paper.specs.Words.{run}
-use Rattle.paper.specs.Text.{runLine}
+use Rattle.paper.specs.Text.{run_line}
 use Rattle.record_read.specs.Formed.{table_of}
 use Rattle.record_read.proofs.Table.{table_runs}
-use Rattle.table_lines.proofs.TableLines.{runs-most, Lining, lining-start, lining-at, lining-room, lining-more, lining-end}
+use Rattle.table_lines.proofs.TableLines.{runs_most, Lining, lining_start, lining_at, lining_room, lining_more, lining_end}
 use Rattle.table_lines.proofs.print_runs.Statement.{statement}
 use Rattle.table_lines.proofs.print_runs.Tie as tie
 
 abbrev invariant-loop : tie.invariant-loop
-invariant-loop out₀ b rd n at₀ k₀ out at k = Lining runLine (table_of b rd).runs rd.runs runLinesRoom out₀ out at k
+invariant-loop out₀ b rd n at₀ k₀ out at k = Lining run_line (table_of b rd).runs rd.runs run_lines_room out₀ out at k
 
 abbrev decreases-loop : tie.decreases-loop
 decreases-loop out₀ b rd n at₀ k₀ out at k = n - k
 
 -- the line of the run that was read has room
-room : (c : tie.After-run-of invariant-loop decreases-loop) → c.before.before.before.loop.at + length (runLine c.run_of.result) ≤ runLinesRoom
-room c = lining-room (run 0 0 0 0) _ (ap runLine c.run_of.ensures.0) c.before.before.before.loop.invariant (search rules)
+room : (c : tie.After-run-of invariant-loop decreases-loop) → c.before.before.before.loop.at + length (run_line c.run_of.result) ≤ run_lines_room
+room c = lining_room (run 0 0 0 0) _ (ap run_line c.run_of.ensures.0) c.before.before.before.loop.invariant (search rules)
 
 loop-holds : tie.Need-loop-init invariant-loop decreases-loop
 loop-holds c =
     let start = c.before.before.before in
     let b = start.args.b.now in
     let rd = start.args.rd in
-    lining-start _ (table_runs b rd) (runs-most b rd start.requires.0)
+    lining_start _ (table_runs b rd) (runs_most b rd start.requires.0)
 
 sub-print-run : tie.Need-overflow-sub-print-run invariant-loop decreases-loop
-sub-print-run c = omega (arith, lining-at c.before.loop.invariant)
+sub-print-run c = omega (arith, lining_at c.before.loop.invariant)
 
 part-print-run-start : tie.Need-slice-bounds-print-run-start invariant-loop decreases-loop
 part-print-run-start c = sub-print-run c
@@ -53,12 +53,12 @@ loop-again : tie.Need-loop-preserved invariant-loop decreases-loop
 loop-again c =
     let read = c.before.before.before in
     let inv = read.before.before.before.loop.invariant in
-    let line = ap runLine read.run_of.ensures.0 in
+    let line = ap run_line read.run_of.ensures.0 in
     let put = c.before.before.print-run in
-    lining-more (run 0 0 0 0) _ _ _ line inv (search rules) put.ensures.0 put.ensures.1 (search rules)
+    lining_more (run 0 0 0 0) _ _ _ line inv (search rules) put.ensures.0 put.ensures.1 (search rules)
 
 returns : tie.Need-returns invariant-loop decreases-loop
-returns c = lining-end c.before.loop.invariant (search rules)
+returns c = lining_end c.before.loop.invariant (search rules)
 
 pub print-runs-spec : {M : Type 1} → statement M
 print-runs-spec =

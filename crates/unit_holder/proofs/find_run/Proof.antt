@@ -4,7 +4,7 @@ use Prim.Native.Nat.{◌-◌}
 use mathlib.Core.Path.{◌≡◌, sym, ◌∙◌}
 use native.Mathlib.Omega.{arith}
 use borrow.Author.Rules.{rules}
-use Rattle.laws.proofs.Search.{Seeking, seek-none, seek-more, seek_hit, seek-miss}
+use Rattle.laws.proofs.Search.{Seeking, seek_none, seek_more, seek_hit, seek_miss}
 use Rattle.paper.specs.Words.{covers, run_at}
 use Rattle.record_read.specs.Formed.{table_of}
 use Rattle.unit_holder.proofs.find_run.Statement.{statement}
@@ -20,7 +20,7 @@ cast-idle : tie.Need-overflow-cast-idle invariant-loop decreases-loop
 cast-idle c = search rules
 
 loop-holds : tie.Need-loop-init invariant-loop decreases-loop
-loop-holds c = (search rules, seek-none _ _)
+loop-holds c = (search rules, seek_none _ _)
 
 covers-at-requires : tie.Need-covers-at-requires invariant-loop decreases-loop
 covers-at-requires c κs = search rules
@@ -34,12 +34,12 @@ loop-less c = search rules
 loop-again : tie.Need-loop-preserved invariant-loop decreases-loop
 loop-again c = (
   search rules,
-  seek-more c.before.before.before.loop.invariant.1 (search rules)
+  seek_more c.before.before.before.loop.invariant.1 (search rules)
       (sym c.before.covers_at.ensures ∙ c.if2.false),
 )
 
 returns : tie.Need-returns invariant-loop decreases-loop
-returns c = omega (arith, seek-miss c.before.loop.invariant.1 (search rules))
+returns c = omega (arith, seek_miss c.before.loop.invariant.1 (search rules))
 
 returns-2 : tie.Need-returns-2 invariant-loop decreases-loop
 returns-2 c = seek_hit c.before.before.before.loop.invariant.1 (search rules) (sym c.before.covers_at.ensures ∙ c.if2.true)

@@ -6,7 +6,7 @@ use Rattle.paper.specs.declared.Run.{Run}
 use Rattle.paper.specs.declared.Held.TheVariants.{By}
 use Rattle.record_read.specs.Formed.{table_of}
 use Rattle.record_read.proofs.Table.{table_runs}
-use Rattle.unit_holder.proofs.Finding.{held_found, held-not-found}
+use Rattle.unit_holder.proofs.Finding.{held_found, held_not_found}
 use Rattle.unit_holder.proofs.held.Statement.{statement}
 use Rattle.unit_holder.proofs.held.Tie as tie
 
@@ -31,7 +31,7 @@ returns-2 : tie.Need-returns-2
 returns-2 c =
     let start = c.before.before.before.before in
     let find-run = c.before.before.find-run in
-    sym (held-not-found (table_of start.args.b.now start.args.rd).runs _ _ start.args.rd.runs find-run.result
+    sym (held_not_found (table_of start.args.b.now start.args.rd).runs _ _ start.args.rd.runs find-run.result
     (sym (table_runs _ start.args.rd)) find-run.ensures (search rules))
 
 pub held_spec : {M : Type 1} → statement M
