@@ -1,5 +1,7 @@
 // What is asked of any table bytes: the question, the dispatcher, which goes from block to block, and the count of loads. The bytes are
 // judged first; then the parts below are asked, by the reading and the edges of the rows, and nothing walks over blocks or ticks.
+#![tactic(auto)]
+
 ghost use Rattle.std.specs.Prelude.{◌≡◌};
 ghost use Rattle.paper.specs.Answers.{question, answer_as, Hands, start, advanced, row_told, row_as, counted, count_as};
 
@@ -11,7 +13,7 @@ use paper::{Answer, Counted, Dispatched, Engine, Judged, RowTold, State};
 use reply::reply_at;
 
 // A dispatcher, by its state.
-#[derive(Drop)]
+#[derive(Clone, Copy)]
 pub struct Dispatcher(pub State);
 
 // What an engine runs at a tick, and on which row.

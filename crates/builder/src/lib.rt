@@ -1,5 +1,7 @@
 // The builder: from services and periods to a table's bytes, by SA1. Tests 1 to 5 come first, then the block length, with 24; what follows,
 // the refusals 6 to 8 and the table written, takes any block length.
+#![tactic(auto)]
+
 ghost use Rattle.std.specs.Prelude.{◌≡◌, ◌≤◌, length};
 ghost use Rattle.paper.specs.Outcome.{answer, Writes};
 ghost use Rattle.paper.specs.Limits.{most_engines};

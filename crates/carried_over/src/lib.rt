@@ -1,4 +1,6 @@
 // What goes on over a boundary between blocks: the duties that an engine has at the end of a block and at the start of the next.
+#![tactic(auto)]
+
 ghost use Rattle.std.specs.Prelude.{◌≡◌, ◌+◌, ◌≤◌};
 ghost use Rattle.paper.specs.Limits.{most_engines};
 ghost use Rattle.paper.specs.Rotation.{first_of};

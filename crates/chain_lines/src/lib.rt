@@ -1,5 +1,7 @@
 // The lines of what follows from a table: one for each chain, and one for the loads. All of it needs no more of a judged table than its
 // reading and the edges of its rows.
+#![tactic(auto)]
+
 ghost use Rattle.std.specs.Prelude.{◌≡◌, ◌*◌, ◌≤◌, length};
 ghost use Rattle.paper.specs.Limits.{most_engines, chain_line_room, rotation_lines_room};
 ghost use Rattle.paper.specs.Rotation.{first_of};

@@ -1,1 +1,3 @@
 // No code: the user's demands as theorems. Nothing stands on this crate.
+
+#![tactic(auto)]

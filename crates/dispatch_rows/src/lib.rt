@@ -1,4 +1,6 @@
 // The rows of all engines in a block, worked out from the block's number, chain by chain; and lists of rows compared.
+#![tactic(auto)]
+
 ghost use Rattle.std.specs.Prelude.{◌≡◌, ◌≤◌};
 ghost use Rattle.laws.specs.Lists.{same_list};
 ghost use Rattle.paper.specs.Limits.{most_engines};

@@ -1,5 +1,7 @@
 // What a dispatcher's state, a block and the rows of all engines in it, comes to: whether it is the one for its block, the state of the
 // block after it, the row of an engine, or a refusal with no state.
+#![tactic(auto)]
+
 ghost use Rattle.std.specs.Prelude.{◌≡◌, ◌≤◌};
 ghost use Rattle.paper.specs.Limits.{most_engines};
 ghost use Rattle.paper.specs.Outcome.{answer, refused_as};

@@ -1,4 +1,6 @@
 // What stands in the builder's two lists, services and periods: the duties, and tests 1 to 5, after which they are taken.
+#![tactic(auto)]
+
 ghost use Rattle.std.specs.Prelude.{◌≡◌, ◌<◌, length};
 ghost use Rattle.paper.specs.Duties.{duty_at};
 ghost use Rattle.paper.specs.Outcome.{verdict_as};

@@ -1,5 +1,7 @@
 // Lists that a caller of the face lends: the entries of answers put; a dispatcher's state, the block and then the rows, taken and put; and
 // what a dispatcher hands back, handed over.
+#![tactic(auto)]
+
 ghost use Rattle.std.specs.Prelude.{◌≡◌, ◌∷◌, ◌≤◌, length};
 ghost use Rattle.laws.specs.Lists.{over};
 ghost use Rattle.paper.specs.Limits.{reading_room, reply_room, share_reading_room, state_room};

@@ -1,5 +1,7 @@
 // Words and entries one at a time: a refusal as the word that a call returns, an entry of a lent state as a row number, and what holds a
 // tick as an entry.
+#![tactic(auto)]
+
 ghost use Rattle.std.specs.Prelude.{◌≡◌, ◌+◌, ◌*◌, ◌≤◌, ◌<◌, min};
 ghost use Rattle.paper.specs.Limits.{most_place, no_row};
 ghost use Rattle.paper.specs.Face.{held_entry};

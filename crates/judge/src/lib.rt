@@ -1,4 +1,6 @@
 // The judge of tables: the form of the bytes, then the rules. One pass over the runs serves the judge and those who ask on.
+#![tactic(auto)]
+
 ghost use Rattle.std.specs.Prelude.{◌≡◌, ◌≤◌};
 ghost use Rattle.paper.specs.Outcome.{answer, and_then, judged_as, refusal_of};
 ghost use Rattle.paper.specs.Rules.{overlaps, lowest, judged, judge_duties, reading_of};

@@ -1,5 +1,7 @@
 // Rules 13 to 15, for which each run is held against its forerunner, the run before it, and against no other: the lowest run of a table's
 // bytes in good form that breaks them. Run 0 has no forerunner.
+#![tactic(auto)]
+
 ghost use Rattle.std.specs.Prelude.{◌≡◌, ◌≤◌, length};
 ghost use Rattle.laws.specs.Search.{first};
 ghost use Rattle.laws.proofs.Search.{beside, Comparing};

@@ -5,6 +5,8 @@
 // The lists stand in one lent array of pointers: at i that of run i, and behind the runs each duty's front. A pointer is 0 at the end of a
 // list, else the next run's number and 1. A second lent array has, as a pointer, the last run of each duty: on a row the runs come by first
 // unit, so a search mostly begins right before its end.
+#![tactic(auto)]
+
 ghost use Rattle.std.specs.Prelude.{◌≡◌, ◌+◌, ◌≤◌, ◌<◌, length, get_or, set};
 ghost use Rattle.laws.proofs.Search.{Clear};
 ghost use Rattle.laws.proofs.SortedLists.{Below, Between, Recent, Sorted};

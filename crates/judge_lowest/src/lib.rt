@@ -1,5 +1,7 @@
 // Of the rules that are said of a duty, the lowest duty of a table's bytes in good form that breaks it: 12, a slice that is not whole; 17,
 // runs that do not add up to the slice. Rule 11 has no place: it is told whether it is broken.
+#![tactic(auto)]
+
 ghost use Rattle.std.specs.Prelude.{◌≡◌, ◌≤◌, ◌<◌};
 ghost use Rattle.paper.specs.Words.{undivided};
 ghost use Rattle.paper.specs.Limits.{most_ticks};
@@ -15,7 +17,7 @@ use record_read::duty_of;
 use slices::{is_whole, slice_of};
 
 // How a duty may not fit the block length: it does not divide the period (11), or the slice is not whole (12).
-#[derive(Drop)]
+#[derive(Clone, Copy)]
 pub enum Misfit {
     Length,
     Slice,

@@ -1,4 +1,6 @@
 // What rules 13 to 15 look at in two runs alone, a run and its forerunner: whether the run stands wrong to it, in a way that a rule names.
+#![tactic(auto)]
+
 ghost use Rattle.std.specs.Prelude.{◌≡◌, ◌≤◌};
 ghost use Rattle.paper.specs.Words.{stop};
 ghost use Rattle.paper.specs.Limits.{most_ticks};
@@ -43,7 +45,7 @@ fn is_wrong(x: Run, y: Run) -> bool
 
 // How a run may stand wrong to its forerunner: not after it (13), with a unit of its row in common (14), as its continuation (15); or in
 // any of these ways.
-#[derive(Drop)]
+#[derive(Clone, Copy)]
 pub enum Amiss {
     Order,
     Overlap,

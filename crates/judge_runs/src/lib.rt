@@ -1,6 +1,8 @@
 // Rules 13 to 17, of the runs of a table's bytes in good form, in their order, each with the place that it reports, in two halves. 13 to 15
 // are said of rows: one pass tells the lowest run that breaks any of them, and only then is each searched by its name, from there on. 16
 // and 17 are said of duties, and need lists.
+#![tactic(auto)]
+
 ghost use Rattle.std.specs.Prelude.{◌≡◌, ◌+◌, ◌≤◌};
 ghost use Rattle.laws.proofs.Search.{Comparing};
 ghost use Rattle.laws.proofs.SortedLists.{Blank};

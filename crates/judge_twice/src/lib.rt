@@ -1,5 +1,7 @@
 // Rule 16: the lowest run of a table's bytes in good form that shares a unit with an earlier run of its duty on another row, by the duty's
 // earlier runs kept sorted in lent lists. How long the lists are their lender decides.
+#![tactic(auto)]
+
 ghost use Rattle.std.specs.Prelude.{◌≡◌, ◌+◌, ◌≤◌};
 ghost use Rattle.laws.proofs.SortedLists.{Blank};
 ghost use Rattle.paper.specs.Rules.{overlaps, twice, lowest};

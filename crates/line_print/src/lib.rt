@@ -1,5 +1,7 @@
 // A printed line: a word, then each number after a space, in decimal, and a line feed. It is written at the front of a
 // lent rest, and the writer tells how many bytes it took. The line of a refusal, which any part of the program may print.
+#![tactic(auto)]
+
 ghost use Rattle.std.specs.Prelude.{◌≤◌, [], ◌∷◌, length};
 ghost use Rattle.laws.specs.Lists.{flat};
 ghost use Rattle.paper.specs.Limits.{refused_line_room};

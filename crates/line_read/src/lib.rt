@@ -1,4 +1,6 @@
 // A line of the plan program's input: where it ends, whether it is that of the engines or that of a duty, and what it says.
+#![tactic(auto)]
+
 ghost use Rattle.std.specs.Prelude.{◌≡◌, true, ◌≤◌, length, get_or, eqb};
 ghost use Rattle.laws.specs.Search.{first};
 ghost use Rattle.paper.specs.Text.{is_dash, engine_line_good, engines_read, duty_line_good, duty_read};

@@ -1,5 +1,7 @@
 // The count of loads of a table that was judged, by its reading and the edges of its rows: nothing looks at the runs, and nothing walks
 // over blocks or ticks.
+#![tactic(auto)]
+
 ghost use Rattle.std.specs.Prelude.{◌≡◌, ◌+◌, ◌-◌, ◌*◌, ◌≤◌};
 ghost use Rattle.paper.specs.Limits.{most_blocks, most_runs};
 ghost use Rattle.paper.specs.Walk.{loads};

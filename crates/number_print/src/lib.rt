@@ -1,4 +1,6 @@
 // A number printed in decimal after a space, at the front of a lent rest; the writer tells how many bytes it took.
+#![tactic(auto)]
+
 ghost use Rattle.std.specs.Prelude.{◌≡◌, ◌≤◌, length};
 ghost use Rattle.paper.specs.Limits.{word_digits};
 ghost use Rattle.paper.specs.Text.{decimal};

@@ -1,4 +1,6 @@
 // A number in the plan program's input: 1 to 9 decimal digits, judged and read.
+#![tactic(auto)]
+
 ghost use Rattle.std.specs.Prelude.{◌≡◌, true};
 ghost use Rattle.paper.specs.Bytes.{within};
 ghost use Rattle.paper.specs.Text.{zero_digit, nine_digit, all_digits, is_number, value};

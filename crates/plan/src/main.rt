@@ -1,4 +1,6 @@
 // The plan program: a duty set on standard input, its plan or `refused NUMBER PLACE` on standard output.
+#![tactic(auto)]
+
 ghost use Rattle.std.specs.Prelude.{◌≤◌, length};
 ghost use Rattle.paper.specs.Limits.{text_room};
 ghost use Rattle.paper.specs.Outcome.{Puts};

@@ -1,5 +1,7 @@
 // The plan program's input: from bytes of any kind to engines and duties, or to the first faulty line. First a line's end
 // is looked for, then the line is judged and read as a part of the bytes of its own.
+#![tactic(auto)]
+
 ghost use Rattle.std.specs.Prelude.{◌≡◌};
 ghost use Rattle.paper.specs.Outcome.{refused};
 ghost use Rattle.paper.specs.Text.{lines_of, duties_from, input, input_read};

@@ -1,4 +1,6 @@
 // A plan as text: a line for the plan, one for each duty, run and chain, and one for the loads.
+#![tactic(auto)]
+
 ghost use Rattle.std.specs.Prelude.{◌≤◌, length};
 ghost use Rattle.paper.specs.Limits.{text_room};
 ghost use Rattle.paper.specs.Text.{plan_text, text_for};

@@ -1,5 +1,7 @@
 // The records of a table as they are read: each is one byte of kind and a body, read as a struct at an offset. Numbers are
 // little-endian. And what bytes in good form give to those who read on: where each record stands, and the duties and runs in them.
+#![tactic(auto)]
+
 ghost use Rattle.std.specs.Prelude.{◌≡◌, ◌+◌, ◌<◌, ◌≤◌, length};
 ghost use Rattle.laws.specs.Digits.{num_at};
 ghost use Rattle.paper.specs.Limits.{small, most_duties, most_runs, head_length, duty_length, run_length};
@@ -44,7 +46,7 @@ pub fn read_four(b: &[u8], at: usize) -> u32
 }
 
 // What a table's head holds: the block length, and how many engines and duties there are.
-#[derive(Drop)]
+#[derive(Clone, Copy)]
 pub struct Head {
     pub block_length: u32,
     pub engines: u32,

@@ -1,5 +1,7 @@
 // The records of a table, each by itself, as fault 10 looks at them: all its bytes are there, it is of its kind and holds no field
 // out of range.
+#![tactic(auto)]
+
 ghost use Rattle.std.specs.Prelude.{◌≡◌, ◌≤◌};
 ghost use Rattle.paper.specs.Limits.{most_place, small, run_length};
 ghost use Rattle.record_read.specs.Formed.{IsHead};

@@ -1,5 +1,7 @@
 // The records of a table as they are written: each is one byte of kind and a body, and is laid over the front of a lent
 // rest, field by field. Numbers are little-endian.
+#![tactic(auto)]
+
 ghost use Rattle.std.specs.Prelude.{◌≡◌, ◌≤◌, length};
 ghost use Rattle.laws.specs.Digits.{digits};
 ghost use Rattle.laws.specs.Lists.{over};

@@ -1,5 +1,7 @@
 // The reply to the direct question: which duty an engine runs at a tick, and on which row, of a judged table. One search for the
 // run that holds the unit is all that looks at the runs, whatever the tick.
+#![tactic(auto)]
+
 ghost use Rattle.std.specs.Prelude.{◌≡◌};
 ghost use Rattle.paper.specs.Answers.{replied, answer_as};
 ghost use Rattle.record_read.specs.Formed.{table_of};

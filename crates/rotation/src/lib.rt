@@ -1,5 +1,7 @@
 // The rotation: the chains of rows, and which row an engine runs in a block. It needs no more of a table than what holds the
 // first and the last unit of each row, as the tally tells it.
+#![tactic(auto)]
+
 ghost use Rattle.std.specs.Prelude.{◌≡◌, ◌+◌, ◌%◌, ◌≤◌, ◌<◌};
 ghost use Rattle.paper.specs.Limits.{most_engines};
 ghost use Rattle.paper.specs.Rotation.{first_of, row_at};
@@ -47,7 +49,7 @@ pub fn chain_of(edges: &[u32; EDGES], row: Row) -> Chain
 }
 
 // A chain in a block: each of its engines is so many places further round it than in block 0.
-#[derive(Drop)]
+#[derive(Clone, Copy)]
 pub struct Turned {
     pub chain: Chain,
     pub places: u32,

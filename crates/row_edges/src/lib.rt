@@ -1,5 +1,7 @@
 // The edges of rows, and their links: which row is chained to the one before it, by what holds the first and the last unit of each row, as
 // the tally tells it.
+#![tactic(auto)]
+
 ghost use Rattle.std.specs.Prelude.{◌≡◌, ◌≤◌, ◌<◌};
 ghost use Rattle.paper.specs.Limits.{most_engines};
 ghost use Rattle.row_edges.specs.Links.{same_code, first_edge, last_edge, link_of};

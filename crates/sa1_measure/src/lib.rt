@@ -1,5 +1,7 @@
 // SA1's slices measured: whether they are whole, how many runs they make, and where they end, which tells whether they fit. Nothing is
 // written.
+#![tactic(auto)]
+
 ghost use Rattle.paper.specs.Wanted.{duties_of};
 ghost use Rattle.duty_lists.specs.Sliceable.{Sliceable};
 ghost use Rattle.sa1_measure.specs.Layouts.{Measured};
@@ -11,7 +13,7 @@ use slices::share_of;
 
 // What the slices come to when they are laid one after the other: the first duty whose slice is not whole, or how many there are; how many
 // runs they make up to it; and the place after the last of these.
-#[derive(Drop)]
+#[derive(Clone, Copy)]
 pub struct Layout {
     pub bad: usize,
     pub runs: usize,

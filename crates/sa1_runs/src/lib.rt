@@ -1,6 +1,7 @@
 // SA1 by its numbers alone: the row and the unit where each duty starts, a duty's one run or the two of a split, and whether all of it fits
 // the engines and a buffer.
 #![tactic(auto)]
+
 ghost use Rattle.std.specs.Prelude.{◌≡◌, ◌+◌, ◌*◌, ◌≤◌, ◌<◌};
 ghost use Rattle.paper.specs.Outcome.{written_as};
 ghost use Rattle.paper.specs.Limits.{small, most_engines, most_duties, most_runs, most_ticks, table_length};
@@ -11,7 +12,7 @@ use paper::limits::{DUTY_LENGTH, END_LENGTH, HEAD_LENGTH, RUN_LENGTH};
 use paper::{Refusal, Row, Run, Written};
 
 // The row and the unit where the next duty starts.
-#[derive(Drop)]
+#[derive(Clone, Copy)]
 pub struct Place {
     pub row: Row,
     pub unit: u32,

@@ -1,4 +1,6 @@
 // The bytes of SA1's table: the head, the duties, the runs and the end.
+#![tactic(auto)]
+
 ghost use Rattle.std.specs.Prelude.{◌≡◌, ◌+◌, ◌*◌, ◌≤◌, ◌<◌, length};
 ghost use Rattle.laws.specs.Lists.{over};
 ghost use Rattle.paper.specs.Sa1.{slices, sa1};

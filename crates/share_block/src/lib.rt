@@ -1,5 +1,7 @@
 // Steps 1, 2 and 4 of SA2 for all duties, block after block. Each duty's share and need stand in four lent lists of one entry for each
 // duty: whole units (`rate`, `whole`) and the part of a unit (`rest`, `part`), the need's whole raised by 1.
+#![tactic(auto)]
+
 ghost use Rattle.std.specs.Prelude.{◌≡◌, ◌+◌, ◌≤◌, length};
 ghost use Rattle.laws.specs.Lists.{over};
 ghost use Rattle.paper.specs.Limits.{most_engines, most_duties};
@@ -72,7 +74,7 @@ fn find_cut(
 
 // What the turns of a block come to: the sum of the needs' whole units before the next one, each raised by 1, and whether some duty would
 // get -1 units.
-#[derive(Drop)]
+#[derive(Clone, Copy)]
 pub struct Turns {
     pub total: u32,
     pub lacking: bool,
@@ -123,7 +125,7 @@ pub fn share_by_cut(
 }
 
 // How a block came out: the sum of the needs' whole units before the next one, each raised by 1, whether it came short, and its cut.
-#[derive(Drop)]
+#[derive(Clone, Copy)]
 pub struct Shared {
     pub total: u32,
     pub short: bool,

@@ -1,4 +1,6 @@
 // The blocks up to the periods' least common multiple, and refusals 22 and 7 of plans of shares.
+#![tactic(auto)]
+
 ghost use Rattle.std.specs.Prelude.{◌≡◌, ◌*◌, ◌/◌, ◌≤◌, ◌<◌, ltb, length};
 ghost use Rattle.laws.specs.Choice.{pick};
 ghost use Rattle.laws.specs.Divisor.{lcm, lcm_of};
@@ -15,7 +17,7 @@ use paper::{Duty, Refusal};
 use slices::gcd_of;
 
 // The blocks of a plan of shares; or 22, or 7.
-#[derive(Drop)]
+#[derive(Clone, Copy)]
 pub enum BlockCount {
     Blocks(u32),
     Refused(Refusal),

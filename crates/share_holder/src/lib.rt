@@ -1,4 +1,6 @@
 // Who has a place of a block's line in a plan of shares.
+#![tactic(auto)]
+
 ghost use Rattle.std.specs.Prelude.{◌≡◌, ◌≤◌, length};
 ghost use Rattle.paper.specs.Limits.{most_duties};
 ghost use Rattle.plan_laws.proofs.Line.{on_line};

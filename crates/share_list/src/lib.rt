@@ -1,5 +1,7 @@
 // A plan of shares written to a list, by the cuts that were found when it was looked through. The four lists of shares and needs stand
 // here, one entry for each duty.
+#![tactic(auto)]
+
 ghost use Rattle.std.specs.Prelude.{◌≡◌, ◌*◌, ◌≤◌, length};
 ghost use Rattle.laws.specs.Lists.{over};
 ghost use Rattle.duty_lists.specs.Sliceable.{Sliceable};

@@ -1,4 +1,6 @@
 // SA2 over many blocks: up to the first that comes short, with the cuts kept; or all of them into a list, by their cuts.
+#![tactic(auto)]
+
 ghost use Rattle.std.specs.Prelude.{◌≡◌, ◌*◌, ◌≤◌, length};
 ghost use Rattle.laws.specs.Lists.{over};
 ghost use Rattle.paper.specs.Limits.{most_engines};
@@ -10,7 +12,7 @@ ghost use Rattle.share_pass.specs.Passing.{Passed, CutsKept, allotted};
 use share_block::{share_block, share_by_cut};
 
 // Where a pass has come to: the block, and the sum of the needs' whole units before it, each raised by 1.
-#[derive(Drop)]
+#[derive(Clone, Copy)]
 pub struct Reached {
     pub block: u32,
     pub total: u32,

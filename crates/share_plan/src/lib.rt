@@ -1,5 +1,7 @@
 // Plans of shares by SA2: the builder of shares, and the question to its plan. Tests 1 to 5 come first, then 22 and 7; past them the blocks
 // are known.
+#![tactic(auto)]
+
 ghost use Rattle.std.specs.Prelude.{◌≡◌, length};
 ghost use Rattle.paper.specs.Wanted.{wanted};
 ghost use Rattle.paper.specs.Shares.{GivesShares, share_plan, share_answer_as, share_question};
@@ -16,14 +18,14 @@ use share_survey::survey;
 use slices::gcd_of_all;
 
 // The block length, and the blocks up to the periods' common multiple.
-#[derive(Drop)]
+#[derive(Clone, Copy)]
 pub struct Measure {
     pub ticks: u32,
     pub blocks: u32,
 }
 
 // What is known of the duties before a block is shared out; or why nothing is shared out.
-#[derive(Drop)]
+#[derive(Clone, Copy)]
 pub enum Measured {
     Known(Measure),
     Refused(Refusal),

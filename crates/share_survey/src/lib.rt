@@ -1,4 +1,6 @@
 // A plan of shares looked through, before anything is written. The four lists of shares and needs stand here, one entry for each duty.
+#![tactic(auto)]
+
 ghost use Rattle.std.specs.Prelude.{◌≡◌, ◌≤◌, ◌<◌, length};
 ghost use Rattle.paper.specs.Limits.{most_engines};
 ghost use Rattle.duty_lists.specs.Sliceable.{Sliceable};

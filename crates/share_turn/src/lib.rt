@@ -1,13 +1,15 @@
 // SA2 by numbers alone: step 1 for a block, steps 2 and 4 for one duty's turn in it. An amount of units is held in two: whole ones, and a
 // part of one in D-ths, for a duty of period D. So a share is N and F, and a need n and f, n raised by 1; block after block there is no
 // division.
+#![tactic(auto)]
+
 ghost use Rattle.std.specs.Prelude.{◌≡◌, ◌+◌, ◌-◌, ◌*◌, ◌/◌, ◌%◌, ◌≤◌, ◌<◌, leb, ltb, eqb};
 ghost use Rattle.laws.specs.Choice.{one_if};
 ghost use Rattle.paper.specs.Limits.{most_engines, most_duties, most_ticks};
 ghost use Rattle.share_turn.specs.Taking.{wants_by, chosen_by, next_by};
 
 // Step 1: the free units of a block, and whether the needs' whole units are more than the engines have.
-#[derive(Drop)]
+#[derive(Clone, Copy)]
 pub struct Room {
     pub free: u32,
     pub overfull: bool,
@@ -57,7 +59,7 @@ fn part_of(period: u32, sum: u32, full: bool) -> u32
 
 // What a duty's turn comes to: the units that it gets, its need before the next block, and 1 if it would get -1 units (a number, so that
 // all that a loop adds up has the same width).
-#[derive(Drop)]
+#[derive(Clone, Copy)]
 pub struct Turn {
     pub units: u32,
     pub whole: u32,

@@ -1,6 +1,7 @@
 // Arithmetic of a plan: a number's and a duty's ranges, and why a duty is out of range; the greatest common divisor, and the block length
 // that is meant; a duty's share.
 #![tactic(auto)]
+
 ghost use Rattle.std.specs.Prelude.{◌≡◌, List, ◌*◌, ◌/◌, ◌%◌, ◌≤◌, ◌<◌, eqb};
 ghost use Rattle.laws.specs.Divisor.{gcd, gcd_of};
 ghost use Rattle.laws.specs.Choice.{pick};
@@ -104,7 +105,7 @@ pub fn is_whole(t: u32, x: Duty) -> bool
 }
 
 // A duty's share of a block, T·C/D: whole units, and the part of a unit, in D-ths.
-#[derive(Drop)]
+#[derive(Clone, Copy)]
 pub struct Share {
     pub units: u32,
     pub rest: u32,

@@ -1,5 +1,7 @@
 // The form of a table's bytes, fault 10: each record stands in its place and is good. Offsets are computed, so a form is two
 // searches: the first bad duty record, and the first record that is no good run.
+#![tactic(auto)]
+
 ghost use Rattle.std.specs.Prelude.{◌≡◌, ◌≤◌};
 ghost use Rattle.paper.specs.Outcome.{answer, and_then};
 ghost use Rattle.paper.specs.Limits.{small, most_duties, most_runs};
@@ -14,7 +16,7 @@ use record_read::{Head, duty_place, read_head, run_place};
 use record_tests::{duty_good, end_good, head_good, run_good};
 
 // What bytes come to: what a good form reads, or the offset of its fault.
-#[derive(Drop)]
+#[derive(Clone, Copy)]
 pub enum Form {
     Good(Reading),
     Fault(usize),

@@ -1,5 +1,7 @@
 // The lines of a plan: of what stands in a table, one for the plan, one for each duty and one for each run; and the lines of a chain and of
 // the loads.
+#![tactic(auto)]
+
 ghost use Rattle.std.specs.Prelude.{[], ◌∷◌, ◌+◌, ◌≤◌, length};
 ghost use Rattle.paper.specs.Limits.{most_ticks, most_engines, most_duties, most_runs};
 ghost use Rattle.paper.specs.Limits.{plan_line_room, duty_lines_room, run_lines_room, table_lines_room, chain_line_room, loads_line_room};

@@ -1,5 +1,7 @@
 // One pass over the runs of a table's bytes in good form: the units of each duty, for the judge, and what holds the first
 // and the last unit of each row, for the rotation. Both lists are lent, so that nothing is copied on its way to those who ask on.
+#![tactic(auto)]
+
 ghost use Rattle.std.specs.Prelude.{◌≡◌, ◌+◌, ◌≤◌, ◌<◌};
 ghost use Rattle.laws.specs.Choice.{pick};
 ghost use Rattle.paper.specs.Words.{stop, covers};

@@ -1,6 +1,8 @@
 // The outside face, for C and Rust: include/tickplume.h says what each function takes, answers and refuses. A slice passes
 // as a pointer and a length. The returned word is 0, or a refusal's number in the low eight bits and its place above them;
 // a refused call writes nothing.
+#![tactic(auto)]
+
 ghost use Rattle.std.specs.Prelude.{◌≡◌};
 ghost use Rattle.paper.specs.Outcome.{leaves};
 ghost use Rattle.paper.specs.Wanted.{wanted};

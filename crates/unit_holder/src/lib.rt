@@ -1,4 +1,6 @@
 // Who holds a unit of a row, read off table bytes in good form.
+#![tactic(auto)]
+
 ghost use Rattle.std.specs.Prelude.{◌≡◌, ◌≤◌, ◌<◌};
 ghost use Rattle.laws.specs.Search.{first};
 ghost use Rattle.paper.specs.Words.{stop, covers, run_at, held_in};
