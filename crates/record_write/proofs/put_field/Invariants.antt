@@ -1,0 +1,14 @@
+use mathlib.Core.Path.{◌≡◌, refl}
+use Prim.Native.Nat.{ℕ, ◌-◌, ◌%◌, ◌≤◌}
+use lib.ListN.{length, length-set}
+use Rattle.laws.specs.Digits.{digits}
+use Rattle.laws.proofs.Digits.{digits_left, digits_none}
+use Rattle.laws.proofs.Writing.{Wrote, unwritten, stored, done, next}
+use Rattle.record_write.proofs.put_field.Given as goal
+
+abbrev pub invariant-loop-i : goal.invariant-loop-i
+invariant-loop-i l =
+    (l.i ≤ l.width) × (length l.out ≡ length l.initial.out) × Wrote (digits l.width l.v) l.initial.out (digits (l.width - l.i) l.left) l.out l.i
+
+abbrev pub decreases-loop-i : goal.decreases-loop-i
+decreases-loop-i l = l.width - l.i

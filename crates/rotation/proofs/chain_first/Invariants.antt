@@ -1,0 +1,13 @@
+use Prim.Native.Nat.{◌≤◌}
+use mathlib.Core.Path.{◌≡◌, sym, ap, ◌∙◌}
+use Rattle.paper.specs.Limits.{most_engines}
+use Rattle.paper.specs.Rotation.{first_of}
+use Rattle.walk_laws.proofs.Page.{first_back, first_zero, begins}
+use Rattle.row_edges.specs.Links.{link_of}
+use Rattle.rotation.proofs.chain_first.Given as goal
+
+abbrev pub invariant-loop-r : goal.invariant-loop-r
+invariant-loop-r l = (l.r ≤ l.initial.r) × (l.initial.r ≤ most_engines) × (first_of (link_of l.edges) l.r ≡ first_of (link_of l.edges) l.initial.r)
+
+abbrev pub decreases-loop-r : goal.decreases-loop-r
+decreases-loop-r l = l.r

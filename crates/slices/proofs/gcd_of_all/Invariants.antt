@@ -1,0 +1,12 @@
+use mathlib.Core.Path.{◌≡◌, sym, ◌∙◌}
+use Prim.Native.Nat.{◌≤◌, ◌-◌}
+use lib.ListN.{length, drop}
+use Rattle.laws.specs.Divisor.{gcd, gcd_of}
+use Rattle.laws.proofs.Divisor.{gcd-start, gcd_further, gcd-finished}
+use Rattle.slices.proofs.gcd_of_all.Given as goal
+
+abbrev pub invariant-loop-i : goal.invariant-loop-i
+invariant-loop-i l = (l.i ≤ length l.periods) × (gcd l.g (gcd_of (drop l.i l.periods)) ≡ gcd_of l.periods)
+
+abbrev pub decreases-loop-i : goal.decreases-loop-i
+decreases-loop-i l = length l.periods - l.i

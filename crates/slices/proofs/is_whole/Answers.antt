@@ -1,0 +1,8 @@
+-- `is_whole` tests what `whole` says, on the product that `scaled` gives.
+use mathlib.Core.Path.{sym}
+use borrow.Author.Rules.{rules}
+use Rattle.slices.proofs.Shares.{whole_is}
+use Rattle.slices.proofs.is_whole.Goals as goal
+
+pub returns : goal.returns
+returns c = rw c.scaled.ensures.0 (sym (whole_is _ _))
