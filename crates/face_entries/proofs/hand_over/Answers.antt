@@ -12,5 +12,4 @@ returns-in-Refused c = rw c.in-Refused.is (record { said = c.word_of.ensures; le
 
 pub returns-in-Done : goal.returns-in-Done
 returns-in-Done c =
-    let case = c.enum_told-1 in
-    rw case.given.1 (record { said = refl; left = c.put_state.ensures })
+    rw c.in-Done.is (record { said = refl; left = c.put_state.ensures })

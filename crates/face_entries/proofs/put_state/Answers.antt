@@ -27,7 +27,7 @@ loop-e-init c = (omega arith, search rules, simp length-set (omega arith), refl,
 
 pub loop-e-preserved : goal.loop-e-preserved
 loop-e-preserved c =
-    let rows = c.args.t3 in
+    let rows = c.args.rows in
     let loop = c.loop-e in
     let number = (get_or rows loop.e (row 0)).0 in
     let here = numbers-left rows loop.e (omega arith) in (
@@ -46,9 +46,9 @@ pub returns : goal.returns
 returns c =
     let args = c.args in
     let end = c.loop-e in
-    let none = numbers-none args.t3 end.e (omega arith) in
+    let none = numbers-none args.rows end.e (omega arith) in
     done _ _ end.state (end.e + 1) (next none end.invariant.4)
-    ∙ opened-over args.block (row_numbers args.t3) args.state.now (omega arith)
+    ∙ opened-over args.block (row_numbers args.rows) args.state.now (omega arith)
 
 pub bounds-state-0 : goal.bounds-state-0
 bounds-state-0 c = omega arith

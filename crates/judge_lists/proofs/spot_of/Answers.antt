@@ -2,7 +2,7 @@
 -- is run k's (`step_none`). With every step the spot's first unit grows, and it stays below run k's.
 use Prim.Native.Nat.{◌+◌, ◌-◌, ◌<◌}
 use mathlib.Core.Path.{◌≡◌, sym, ◌∙◌}
-use mathlib.Core.Bool.{Bool}
+use mathlib.Core.Bool.{Bool, true}
 use native.Mathlib.Omega.{arith}
 use lib.ListN.{length, get_or}
 use borrow.Author.Rules.{rules}
@@ -34,7 +34,8 @@ starts_before-requires c =
     record { formed = c.requires.0; pointer_le_runs = omega (arith, c.pointer_at.ensures, few, c.requires.1) }
 
 pub pointer_at-spot-requires : goal.pointer_at-spot-requires
-pointer_at-spot-requires c = pointer_at-requires (goal.at.pointer_at-spot-requires c).At-loop-rd κs
+pointer_at-spot-requires c =
+    spot_room c.requires.2 (known (goal.at.pointer_at-spot-requires c).Start).1 c.loop-rd.invariant.spot
 
 -- whether the pointer at the spot leads to a run that starts before run k
 led : (c : After-starts_before) {v : Bool} → c.starts_before.result ≡ v →
@@ -48,19 +49,20 @@ on : (c : In-loop-rd) →
     let w = kept (table_of c.args.b.now c.args.rd).runs in
     let spot = c.loop-rd.spot in
     let pointer = get_or c.args.pointers.now spot 0 in
+    starts_before (table_of c.args.b.now c.args.rd).runs pointer (run_at (table_of c.args.b.now c.args.rd).runs c.args.k).first ≡ true →
     (0 < pointer) × Below w c.args.k (pointer - 1) × (rank w spot < rank w (pointer - 1))
-on c =
+on c e =
     let xs = (table_of c.args.b.now c.args.rd).runs in
-    step_on xs c.requires.2 (known c).0 (known c).1 c.loop-rd.invariant (led c.After-starts_before?TODO c.loop-rd-test.true)
+    step_on xs c.requires.2 (known c.before.before.before.before.before.before.before.before).0 (known c.before.before.before.before.before.before.before.before).1 c.loop-rd.invariant e
 
 pub overflow_sub-spot : goal.overflow_sub-spot
-overflow_sub-spot c = rw c.pointer_at-spot.ensures (on (goal.at.overflow_sub-spot c).In-loop-rd).0
+overflow_sub-spot c = rw c.pointer_at-spot.ensures (on (goal.at.overflow_sub-spot c).In-loop-rd (led (goal.at.overflow_sub-spot c).After-starts_before c.loop-rd-test.true)).0
 
 pub loop-rd-smaller : goal.loop-rd-smaller
-loop-rd-smaller c = rw c.pointer_at-spot.ensures (omega (arith, (on (goal.at.loop-rd-smaller c).In-loop-rd).2, (on (goal.at.loop-rd-smaller c).In-loop-rd).1.under))
+loop-rd-smaller c = rw c.pointer_at-spot.ensures (omega (arith, (on (goal.at.loop-rd-smaller c).In-loop-rd (led (goal.at.loop-rd-smaller c).After-starts_before c.loop-rd-test.true)).2, (on (goal.at.loop-rd-smaller c).In-loop-rd (led (goal.at.loop-rd-smaller c).After-starts_before c.loop-rd-test.true)).1.under))
 
 pub loop-rd-preserved : goal.loop-rd-preserved
-loop-rd-preserved c = rw c.pointer_at-spot.ensures (on (goal.at.loop-rd-preserved c).In-loop-rd).1
+loop-rd-preserved c = rw c.pointer_at-spot.ensures (on (goal.at.loop-rd-preserved c).In-loop-rd (led (goal.at.loop-rd-preserved c).After-starts_before c.loop-rd-test.true)).1
 
 pub returns : goal.returns
 returns c =
