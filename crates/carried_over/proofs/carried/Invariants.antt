@@ -1,0 +1,15 @@
+use Prim.Native.Nat.{◌-◌, ◌≤◌}
+use mathlib.Core.Path.{◌≡◌, sym, ap, ◌∙◌}
+use Rattle.paper.specs.Rotation.{first_of}
+use Rattle.walk_laws.proofs.Page.{first_zero, onward}
+use Rattle.row_edges.specs.Links.{link_of}
+use Rattle.carried_over.specs.Carried.{carried_of}
+use Rattle.carried_over.proofs.Carrying.{carried_none, carried_onward}
+use Rattle.carried_over.proofs.carried.Given as goal
+
+abbrev pub invariant-loop-first : goal.invariant-loop-first
+invariant-loop-first l =
+    (l.first ≤ l.engines) × (first_of (link_of l.edges) l.first ≡ l.first) × (l.count ≡ carried_of l.edges l.first) × (l.count ≤ l.first)
+
+abbrev pub decreases-loop-first : goal.decreases-loop-first
+decreases-loop-first l = l.engines - l.first

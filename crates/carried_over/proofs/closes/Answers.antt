@@ -1,0 +1,7 @@
+-- `closes`: the two edges, compared.
+use mathlib.Core.Path.{◌∙◌}
+use borrow.Author.Rules.{rules}
+use Rattle.carried_over.proofs.closes.Goals as goal
+
+pub returns : goal.returns
+returns c = c.same_duty.ensures ∙ rw (c.last_edge.ensures, c.first_edge.ensures)

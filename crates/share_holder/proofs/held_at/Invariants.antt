@@ -1,0 +1,16 @@
+use Prim.Native.Nat.{ℕ, suc, ◌+◌, ◌-◌, ◌≤◌, ◌<◌}
+use mathlib.Core.Path.{◌≡◌, sym, ◌∙◌}
+use mathlib.Core.List.{List}
+use native.Mathlib.Numerals.{add-one}
+use lib.ListN.{length, get_or, drop}
+use lib.Seq.{drop-cons}
+use Rattle.paper.specs.declared.Held.TheVariants.{By}
+use Rattle.plan_laws.proofs.Line.{on_line, first_has, first_not, none_has}
+use Rattle.share_holder.proofs.held_at.Given as goal
+
+abbrev pub invariant-loop-i : goal.invariant-loop-i
+invariant-loop-i l =
+    (l.left ≤ l.place) × (l.i ≤ length l.units) × (on_line (drop l.i l.units) l.i (l.place - l.left) l.place ≡ on_line l.units 0 0 l.place)
+
+abbrev pub decreases-loop-i : goal.decreases-loop-i
+decreases-loop-i l = length l.units - l.i

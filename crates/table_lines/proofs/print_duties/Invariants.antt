@@ -1,0 +1,26 @@
+use mathlib.Core.Path.{◌≡◌, ◌∙◌}
+use mathlib.Core.List.{List, [], ◌∷◌}
+use Prim.Native.Nat.{ℕ, ◌+◌, ◌-◌, ◌≤◌, ◌<◌}
+use lib.ListN.{length, get_or}
+use Rattle.laws.specs.Lists.{tab}
+use Rattle.laws.proofs.Lists.{length-tab, get_or-tab}
+use Rattle.laws.proofs.Writing.{length-lent}
+use Rattle.paper.specs.declared.Duty.{Duty}
+use Rattle.paper.specs.declared.Reading.{Reading}
+use Rattle.paper.specs.Limits.{duty_lines_room}
+use Rattle.paper.specs.Duties.{duty_at}
+use Rattle.paper.specs.Text.{print_line, duty_word, duty_line}
+use Rattle.record_read.specs.Formed.{table_of}
+use Rattle.record_read.proofs.Table.{table_duties}
+use Rattle.table_lines.proofs.TableLines.{duties_most, Lining, lining_start, lining_at, lining_room, lining_more, lining_end}
+use Rattle.table_lines.proofs.print_duties.Given as goal
+
+-- the numbers of the duties
+abbrev pub numbersOf : List ℕ → Reading → List ℕ
+numbersOf b rd = tab (length (table_of b rd).duties) (λ i. i)
+
+abbrev pub invariant-loop-i : goal.invariant-loop-i
+invariant-loop-i l = Lining (duty_line (table_of l.b l.rd).duties) (numbersOf l.b l.rd) l.rd.duties duty_lines_room l.initial.out l.out l.at l.i
+
+abbrev pub decreases-loop-i : goal.decreases-loop-i
+decreases-loop-i l = l.n - l.i

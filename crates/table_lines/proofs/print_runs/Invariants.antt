@@ -1,0 +1,17 @@
+use mathlib.Core.Path.{ap}
+use Prim.Native.Nat.{◌+◌, ◌-◌, ◌≤◌}
+use lib.ListN.{length}
+use Rattle.laws.proofs.Writing.{length-lent}
+use Rattle.paper.specs.Limits.{run_lines_room}
+use Rattle.paper.specs.Words.{run}
+use Rattle.paper.specs.Text.{run_line}
+use Rattle.record_read.specs.Formed.{table_of}
+use Rattle.record_read.proofs.Table.{table_runs}
+use Rattle.table_lines.proofs.TableLines.{runs_most, Lining, lining_start, lining_at, lining_room, lining_more, lining_end}
+use Rattle.table_lines.proofs.print_runs.Given as goal
+
+abbrev pub invariant-loop-k : goal.invariant-loop-k
+invariant-loop-k l = Lining run_line (table_of l.b l.rd).runs l.rd.runs run_lines_room l.initial.out l.out l.at l.k
+
+abbrev pub decreases-loop-k : goal.decreases-loop-k
+decreases-loop-k l = l.n - l.k
