@@ -12,8 +12,6 @@ use Rattle.record_read.proofs.Table.{table_runs}
 use Rattle.table_laws.proofs.SortedRuns.{kept, twice_at, distinct}
 use Rattle.judge_lists.proofs.Listed.{in_list, owned, rowed}
 use Rattle.judge_twice.proofs.lowest_twice.Goals as goal
-use Rattle.judge_twice.proofs.lowest_twice.Goals.{After-slice_known-2-1, Start}
-
 pub loop-k-init : goal.loop-k-init
 loop-k-init c =
     let xs = (table_of c.args.b.now c.args.rd).runs in
@@ -86,9 +84,8 @@ loop-k-smaller c = omega arith
 pub loop-k-preserved : goal.loop-k-preserved
 loop-k-preserved c =
     let loop = c.loop-k in
-    let start = (goal.at.loop-k-preserved c).Start in
-    let in-loop = (goal.at.loop-k-preserved c).After-slice_known-2-1 in
-    let few : loop.k < start.args.rd.runs = in-loop.loop-test.true in
+    let start = c in
+    let few : loop.k < start.args.rd.runs = c.loop-k-test.true in
     let run_is = c.run_of-duty.ensures.0 in
     let spot = c.spot_of-spot.ensures in
     let inserted = c.insert.ensures in
