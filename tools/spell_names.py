@@ -18,6 +18,9 @@ FALLS = {"block-length": "block_length"}
 # lemmas that the kit's script spelled already, and that would fall together with a definition
 SPELLED = {"head_bytes": "head_bytes_lem", "in_ones": "in_ones_lem", "same_code": "same_code_lem", "chain_length": "chain_length_lem", "row_told": "row_told_lem"}
 
+# definitions whose heads the reading below does not see
+WRITTEN = {"buildFrom": "build_from", "rowEntry": "row_entry", "numbersOf": "numbers_of"}
+
 
 def files(pattern):
     return [p for p in sorted(glob.glob(pattern, recursive=True)) if "/out/" not in p]
@@ -77,6 +80,7 @@ def main():
         if new != n:
             names[n] = new
     names.update(SPELLED)
+    names.update(WRITTEN)
     # a lemma that would get the name of a definition or of a function of the code that it is about ends in _lem
     by = {}
     for n in set(top) | inner:

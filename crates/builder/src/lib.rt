@@ -8,7 +8,7 @@ ghost use Rattle.paper.specs.Limits.{most_engines};
 ghost use Rattle.paper.specs.Wanted.{duties_of, wanted, taken};
 ghost use Rattle.duty_lists.specs.Sliceable.{Sliceable};
 ghost use Rattle.builder.specs.BuildAt.{build_at};
-ghost use Rattle.paper.specs.Builder.{build as buildFrom};
+ghost use Rattle.paper.specs.Builder.{build as build_from};
 
 use duty_lists::take_duties;
 use paper::{Refusal, Verdict, Written};
@@ -51,7 +51,7 @@ fn build_taken(
     out: &mut [u8],
 ) -> Written
     requires { taken (wanted engines services.now periods.now) ≡ answer (duties_of services.now periods.now) }
-    ensures { Writes (buildFrom wish (wanted engines services.now periods.now) (length out.old)) result
+    ensures { Writes (build_from wish (wanted engines services.now periods.now) (length out.old)) result
         out.old out.new }
 {
     let greatest = gcd_of_all(periods);
@@ -68,7 +68,7 @@ fn build_taken(
 // Builds a table from services and periods, in blocks of the wanted length; 0 means the periods' greatest common divisor. The answer is the
 // table's length in bytes; bytes past it stay. A refusal writes nothing.
 pub fn build(wish: u32, engines: u32, services: &[u32], periods: &[u32], out: &mut [u8]) -> Written
-    ensures { Writes (buildFrom wish (wanted engines services.now periods.now) (length out.old)) result
+    ensures { Writes (build_from wish (wanted engines services.now periods.now) (length out.old)) result
         out.old out.new }
 {
     let verdict = take_duties(engines, services, periods);

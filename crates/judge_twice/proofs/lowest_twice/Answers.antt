@@ -12,6 +12,7 @@ use Rattle.record_read.proofs.Table.{table_runs}
 use Rattle.table_laws.proofs.SortedRuns.{kept, twice_at, distinct}
 use Rattle.judge_lists.proofs.Listed.{in_list, owned, rowed}
 use Rattle.judge_twice.proofs.lowest_twice.Goals as goal
+
 pub loop-k-init : goal.loop-k-init
 loop-k-init c =
     let xs = (table_of c.args.b.now c.args.rd).runs in

@@ -17,7 +17,7 @@ use Rattle.record_read.specs.Formed.{table_of}
 use Rattle.record_read.proofs.Table.{table_duties}
 use Rattle.table_lines.proofs.TableLines.{duties_most, Lining, lining_start, lining_at, lining_room, lining_more, lining_end}
 use Rattle.table_lines.proofs.print_duties.Goals as goal
-use Rattle.table_lines.proofs.print_duties.Invariants.{numbersOf}
+use Rattle.table_lines.proofs.print_duties.Invariants.{numbers_of}
 use Rattle.table_lines.proofs.print_duties.Goals.{After-duty_of, In-loop-i}
 
 -- the line of a duty with its number
@@ -25,14 +25,14 @@ abbrev line_of : ℕ → Duty → List ℕ
 line_of i x = print_line duty_word (i ∷ x.service ∷ x.period ∷ [])
 
 line : (b : List ℕ) (rd : Reading) (i : ℕ) (x : Duty) → i < rd.duties → x ≡ duty_at (table_of b rd).duties i
-    → line_of i x ≡ duty_line (table_of b rd).duties (get_or (numbersOf b rd) i 0)
+    → line_of i x ≡ duty_line (table_of b rd).duties (get_or (numbers_of b rd) i 0)
 line b rd i x h e = rw (get_or-tab (length (table_of b rd).duties) (λ j. j) 0 i (rw (table_duties b rd) h), e)
 
 -- the line of the duty that was read is the next, and has room
 next : (c : After-duty_of) →
     let ds = (table_of c.args.b.now c.args.rd).duties in
     let loop = c.loop-i in
-    line_of loop.i c.duty_of.result ≡ duty_line ds (get_or (numbersOf c.args.b.now c.args.rd) loop.i 0)
+    line_of loop.i c.duty_of.result ≡ duty_line ds (get_or (numbers_of c.args.b.now c.args.rd) loop.i 0)
 next c =
     let loop = c.loop-i in
     line c.args.b.now c.args.rd loop.i c.duty_of.result (search rules) c.duty_of.ensures.0

@@ -18,8 +18,8 @@ use Rattle.tickplume.proofs.tickplume_row.Statement.{statement}
 use Rattle.tickplume.proofs.tickplume_row.Tie as tie
 
 -- a row as the entries of an answer
-abbrev rowEntry : Row → List ℕ
-rowEntry r = r.0 ∷ []
+abbrev row_entry : Row → List ℕ
+row_entry r = r.0 ∷ []
 
 returns : tie.Need-returns
 returns c = rw (lt-ltb _ state_room c.before.if1.true) (record { said = c.too_short.ensures; left = refl })
@@ -56,7 +56,7 @@ returns-3 : tie.Need-returns-3
 returns-3 c =
     let at = c.before.before.before.before in
     tell_next state_room (le-ltb _ state_room at.before.before.before.if1.false)
-    (tell_refused rowEntry word_room at.before.before.if2.false (sym (told at) ∙ ap row_as c.before.before.why.given.1)
+    (tell_refused row_entry word_room at.before.before.if2.false (sym (told at) ∙ ap row_as c.before.before.why.given.1)
     c.word_of.ensures)
 
 returns-4 : tie.Need-returns-4
@@ -64,7 +64,7 @@ returns-4 c =
     let at = c.before.before.before.before in
     let room = at.before.before.if2.false in
     tell_next state_room (le-ltb _ state_room at.before.before.before.if1.false)
-    (tell_answer rowEntry word_room room (sym (told at) ∙ ap row_as c.before.before.row2.given.1) (stored_one _ _ room))
+    (tell_answer row_entry word_room room (sym (told at) ∙ ap row_as c.before.before.row2.given.1) (stored_one _ _ room))
 
 pub tickplume-row-spec : {M : Type 1} → statement M
 tickplume-row-spec =
