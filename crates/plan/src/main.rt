@@ -16,6 +16,8 @@ use paper::limits::{EDGES, MOST_INPUT, MOST_TABLE, TEXT_ROOM};
 use paper::{Input, Judged, Verdict, Written};
 use plan_input::read_input;
 use plan_text::print_text;
+use std::io;
+use std::io::{Read, Write};
 
 // The plan in table bytes, or their refusal.
 fn print_plan(out: &mut [u8], table: &[u8]) -> usize
@@ -59,14 +61,24 @@ fn run_plan(input: &[u8], out: &mut [u8; TEXT_ROOM]) -> usize
     }
 }
 
-// Reads, runs and prints. One byte more than the longest input is read, so that a longer one is seen. Output that is lost is told on
-// standard error: a program has no status of its own to tell it by.
-fn main() {
+// Reads, runs and prints. One byte more than the longest input is read, so that a longer one is seen; each read gives a byte or more until the
+// input ends. Output that is lost is told on standard error: a program has no status of its own to tell it by.
+fn main(rt: HostRuntime) -> io::Result<()> {
     let mut input = [0u8; MOST_INPUT + 1];
-    let n = io::read_full(0, &mut input);
+    let mut n = 0;
+    for _ in 0..=MOST_INPUT {
+        let more = rt.stdin().read(&mut input[n..])?;
+        if more == 0 {
+            break;
+        }
+        n += more;
+    }
     let mut out = [0u8; TEXT_ROOM];
     let length = run_plan(&input[..n], &mut out);
-    if !io::write_all(1, &out[..length]) {
-        io::write_all(2, b"plan: the output could not be written\n");
+    match rt.stdout().write_all(&out[..length]) {
+        Ok(()) => Ok(()),
+        Err(_) => rt
+            .stderr()
+            .write_all(b"plan: the output could not be written\n"),
     }
 }
