@@ -1,13 +1,10 @@
 -- `begin`: each duty's share is divided once; the four lists are turned duty after duty, and the sum is at most a million and one for each.
-use Prim.Native.Nat.{◌-◌}
 use mathlib.Core.Path.{sym, ◌∙◌}
 use borrow.Author.Rules.{rules}
-use lib.ListN.{length}
 use Rattle.plan_laws.proofs.Planned.{length_duties}
 use Rattle.slices.proofs.Shares.{slice_is}
 use Rattle.duty_lists.proofs.Duties.{share_asked}
-use Rattle.share_block.specs.Paced.{sharing_by}
-use Rattle.share_block.proofs.Beginning.{Begun, begun_none, begun_more, begun_rated, begun_paced}
+use Rattle.share_block.proofs.Beginning.{begun_none, begun_more, begun_rated, begun_paced}
 use Rattle.share_block.proofs.begin.Goals as goal
 
 pub loop-i-init : goal.loop-i-init

@@ -1,11 +1,7 @@
 use Prim.Native.Nat.{◌-◌}
-use mathlib.Core.Path.{sym, ◌∙◌}
 use lib.ListN.{length}
-use Rattle.plan_laws.proofs.Planned.{length_duties}
-use Rattle.slices.proofs.Shares.{slice_is}
-use Rattle.duty_lists.proofs.Duties.{share_asked}
 use Rattle.share_block.specs.Paced.{sharing_by}
-use Rattle.share_block.proofs.Beginning.{Begun, begun_none, begun_more, begun_rated, begun_paced}
+use Rattle.share_block.proofs.Beginning.{Begun}
 use Rattle.share_block.proofs.begin.Given as goal
 
 abbrev pub invariant-loop-i : goal.invariant-loop-i

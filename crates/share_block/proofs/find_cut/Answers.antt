@@ -1,17 +1,15 @@
 -- `find_cut`: the count is that of the duties before i that want a unit. The loop goes on while fewer than F do, so it stops at the cut.
-use Prim.Native.Nat.{ℕ, ◌-◌, ◌<◌}
+use Prim.Native.Nat.{ℕ, ◌<◌}
 use mathlib.Core.Path.{◌≡◌, sym, ap, ◌∙◌}
 use mathlib.Core.Bool.{true, false, ◌&&◌}
 use native.Mathlib.Omega.{arith}
 use lib.Dec.{ltb}
 use lib.ListN.{length}
-use borrow.Author.Rules.{rules}
 use borrow.Author.Tests.{ltb-true, lt-ltb}
 use Rattle.laws.specs.Choice.{one_if}
 use Rattle.laws.proofs.Cases.{and_left, and_right, and_both, not_both}
 use Rattle.plan_laws.proofs.Planned.{length_duties}
-use Rattle.share_block.specs.Paced.{sharing_by}
-use Rattle.share_block.proofs.Cutting.{Cutting, cutting_none, cutting_more, cutting_end}
+use Rattle.share_block.proofs.Cutting.{cutting_none, cutting_more, cutting_end}
 use Rattle.share_block.proofs.Going.{long_as}
 use Rattle.share_block.proofs.find_cut.Goals as goal
 use Rattle.share_block.proofs.find_cut.Goals.{In-loop-i}

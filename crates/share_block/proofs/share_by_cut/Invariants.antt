@@ -1,11 +1,8 @@
-use Prim.Native.Nat.{ℕ, ◌+◌, ◌-◌, ◌<◌}
-use mathlib.Core.Path.{◌≡◌, sym, ap, ◌∙◌}
-use native.Mathlib.Nat.{lt_of_lt_of_le}
+use Prim.Native.Nat.{◌-◌}
+use mathlib.Core.Path.{◌≡◌}
 use lib.ListN.{length}
-use Rattle.plan_laws.proofs.Planned.{length_duties, duty_is}
 use Rattle.share_block.specs.Paced.{sharing_by}
-use Rattle.share_block.proofs.Going.{Going, turn_taken, going_none, going_more, going_paced, going_lacked, going_written}
-use Rattle.share_block.proofs.Going.{ready, long_as}
+use Rattle.share_block.proofs.Going.{Going}
 use Rattle.share_block.proofs.share_by_cut.Given as goal
 
 abbrev pub invariant-loop-i : goal.invariant-loop-i
