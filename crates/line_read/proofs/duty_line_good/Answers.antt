@@ -16,4 +16,4 @@ pub returns : goal.returns
 returns c =
     let text = c.args.c.now in
     let space = c.find-space in
-    rw (c.is_number.ensures, c.is_number-2.ensures) (sym (duty-good text space.result space.ensures.0))
+    rw (c.is_number.ensures, c.is_number-2.ensures) (sym (duty-good text space.result space.ensures.value))

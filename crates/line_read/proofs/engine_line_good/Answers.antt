@@ -1,5 +1,4 @@
 -- `engine_line_good`: the two tests of the definition.
-use borrow.Author.Rules.{rules}
 use Rattle.line_read.proofs.engine_line_good.Goals as goal
 
 pub returns : goal.returns

@@ -1,6 +1,5 @@
 -- `engines_read`: a line that is good and no `-` is a number.
 use mathlib.Core.Path.{refl, sym, ◌∙◌}
-use borrow.Author.Rules.{rules}
 use Rattle.line_read.proofs.engines_read.Goals as goal
 
 pub value_of-requires : goal.value_of-requires

@@ -1,10 +1,7 @@
 -- `find`: every place that was passed holds another byte.
-use Prim.Native.Nat.{◌-◌}
 use borrow.Author.Rules.{rules}
-use lib.ListN.{length, get_or}
-use lib.Dec.{eqb}
 use borrow.Author.Tests.{eq-eqb, ne_eqb}
-use Rattle.laws.proofs.Search.{Seeking, seek_none, seek_more, seek_hit, seek_miss}
+use Rattle.laws.proofs.Search.{seek_none, seek_more, seek_hit, seek_miss}
 use Rattle.line_read.proofs.find.Goals as goal
 
 pub loop-i-init : goal.loop-i-init

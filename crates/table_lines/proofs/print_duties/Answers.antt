@@ -1,11 +1,10 @@
 -- `print_duties`: after i turns the lines of the first i duties are written.
 use mathlib.Core.Path.{◌≡◌, ◌∙◌}
 use mathlib.Core.List.{List, [], ◌∷◌}
-use Prim.Native.Nat.{ℕ, ◌+◌, ◌-◌, ◌≤◌, ◌<◌}
+use Prim.Native.Nat.{ℕ, ◌+◌, ◌≤◌, ◌<◌}
 use borrow.Author.Rules.{rules}
 use native.Mathlib.Omega.{arith}
 use lib.ListN.{length, get_or}
-use Rattle.laws.specs.Lists.{tab}
 use Rattle.laws.proofs.Lists.{length-tab, get_or-tab}
 use Rattle.laws.proofs.Writing.{length-lent}
 use Rattle.paper.specs.declared.Duty.{Duty}
@@ -15,7 +14,7 @@ use Rattle.paper.specs.Duties.{duty_at}
 use Rattle.paper.specs.Text.{print_line, duty_word, duty_line}
 use Rattle.record_read.specs.Formed.{table_of}
 use Rattle.record_read.proofs.Table.{table_duties}
-use Rattle.table_lines.proofs.TableLines.{duties_most, Lining, lining_start, lining_at, lining_room, lining_more, lining_end}
+use Rattle.table_lines.proofs.TableLines.{duties_most, lining_start, lining_at, lining_room, lining_more, lining_end}
 use Rattle.table_lines.proofs.print_duties.Goals as goal
 use Rattle.table_lines.proofs.print_duties.Invariants.{numbers_of}
 use Rattle.table_lines.proofs.print_duties.Goals.{After-duty_of, In-loop-i}
@@ -51,9 +50,6 @@ loop-i-init c =
 pub slice_bounds-print_duty-count : goal.slice_bounds-print_duty-count
 slice_bounds-print_duty-count c = omega (arith, lining_at c.loop-i.invariant)
 
-pub slice_bounds-print_duty-start : goal.slice_bounds-print_duty-start
-slice_bounds-print_duty-start c = slice_bounds-print_duty-count (goal.at.slice_bounds-print_duty-start c).In-loop-i
-
 pub duty_of-requires : goal.duty_of-requires
 duty_of-requires c =
     record { formed = c.requires.formed; d_lt_duties = search rules }
@@ -71,4 +67,6 @@ loop-i-preserved c =
     lining_more 0 _ _ _ (next (goal.at.loop-i-preserved c).After-duty_of) inv (search rules) put.ensures.0 put.ensures.1 (search rules)
 
 pub returns : goal.returns
-returns c = lining_end c.loop-i.invariant (search rules)
+returns c =
+    let all = lining_end c.loop-i.invariant (search rules) in
+    record { puts = all.0; upper_bound = all.1 }

@@ -1,18 +1,12 @@
-use mathlib.Core.Path.{◌≡◌, ◌∙◌}
-use mathlib.Core.List.{List, [], ◌∷◌}
-use Prim.Native.Nat.{ℕ, ◌+◌, ◌-◌, ◌≤◌, ◌<◌}
-use lib.ListN.{length, get_or}
+use mathlib.Core.List.{List}
+use Prim.Native.Nat.{ℕ, ◌-◌}
+use lib.ListN.{length}
 use Rattle.laws.specs.Lists.{tab}
-use Rattle.laws.proofs.Lists.{length-tab, get_or-tab}
-use Rattle.laws.proofs.Writing.{length-lent}
-use Rattle.paper.specs.declared.Duty.{Duty}
 use Rattle.paper.specs.declared.Reading.{Reading}
 use Rattle.paper.specs.Limits.{duty_lines_room}
-use Rattle.paper.specs.Duties.{duty_at}
-use Rattle.paper.specs.Text.{print_line, duty_word, duty_line}
+use Rattle.paper.specs.Text.{duty_line}
 use Rattle.record_read.specs.Formed.{table_of}
-use Rattle.record_read.proofs.Table.{table_duties}
-use Rattle.table_lines.proofs.TableLines.{duties_most, Lining, lining_start, lining_at, lining_room, lining_more, lining_end}
+use Rattle.table_lines.proofs.TableLines.{Lining}
 use Rattle.table_lines.proofs.print_duties.Given as goal
 
 -- the numbers of the duties

@@ -3,12 +3,11 @@ use Prim.Native.Nat.{◌≤◌}
 use mathlib.Core.List.{[], ◌∷◌}
 use native.Mathlib.Omega.{arith}
 use lib.ListN.{length}
-use borrow.Author.Rules.{rules}
 use Rattle.paper.specs.Limits.{loads_line_room}
 use Rattle.paper.specs.Text.{print_line, loads_word}
 use Rattle.line_print.proofs.Line.{line_most}
 use Rattle.table_lines.proofs.print_loads.Goals as goal
-use Rattle.table_lines.proofs.print_loads.Goals.{After-slice_known-1, Start}
+use Rattle.table_lines.proofs.print_loads.Goals.{Start}
 
 fits : (s : Start) → length (print_line loads_word (s.args.first ∷ s.args.later ∷ [])) ≤ loads_line_room
 fits s =
@@ -17,9 +16,9 @@ fits s =
 
 pub print_line-requires : goal.print_line-requires
 print_line-requires c =
-    omega (arith, fits (goal.at.print_line-requires c).After-slice_known-1)
+    omega (arith, fits (goal.at.print_line-requires c).Start)
 
 pub returns : goal.returns
 returns c =
     let put = c.print_line in
-    record { puts = put.ensures; upper_bound = rw put.ensures.0 (fits (goal.at.returns c).After-slice_known-1) }
+    record { puts = put.ensures; upper_bound = rw put.ensures.0 (fits (goal.at.returns c).Start) }

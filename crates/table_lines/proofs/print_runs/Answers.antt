@@ -1,6 +1,6 @@
 -- `print_runs`: after k turns the lines of the first k runs are written.
 use mathlib.Core.Path.{ap}
-use Prim.Native.Nat.{◌+◌, ◌-◌, ◌≤◌}
+use Prim.Native.Nat.{◌+◌, ◌≤◌}
 use lib.ListN.{length}
 use borrow.Author.Rules.{rules}
 use native.Mathlib.Omega.{arith}
@@ -8,9 +8,8 @@ use Rattle.laws.proofs.Writing.{length-lent}
 use Rattle.paper.specs.Limits.{run_lines_room}
 use Rattle.paper.specs.Words.{run}
 use Rattle.paper.specs.Text.{run_line}
-use Rattle.record_read.specs.Formed.{table_of}
 use Rattle.record_read.proofs.Table.{table_runs}
-use Rattle.table_lines.proofs.TableLines.{runs_most, Lining, lining_start, lining_at, lining_room, lining_more, lining_end}
+use Rattle.table_lines.proofs.TableLines.{runs_most, lining_start, lining_at, lining_room, lining_more, lining_end}
 use Rattle.table_lines.proofs.print_runs.Goals as goal
 use Rattle.table_lines.proofs.print_runs.Goals.{After-run_of, In-loop-k}
 
@@ -26,9 +25,6 @@ loop-k-init c =
 
 pub slice_bounds-print_run-count : goal.slice_bounds-print_run-count
 slice_bounds-print_run-count c = omega (arith, lining_at c.loop-k.invariant)
-
-pub slice_bounds-print_run-start : goal.slice_bounds-print_run-start
-slice_bounds-print_run-start c = slice_bounds-print_run-count (goal.at.slice_bounds-print_run-start c).In-loop-k
 
 pub run_of-requires : goal.run_of-requires
 run_of-requires c =
@@ -48,4 +44,6 @@ loop-k-preserved c =
     lining_more (run 0 0 0 0) _ _ _ line inv (search rules) put.ensures.0 put.ensures.1 (search rules)
 
 pub returns : goal.returns
-returns c = lining_end c.loop-k.invariant (search rules)
+returns c =
+    let all = lining_end c.loop-k.invariant (search rules) in
+    record { puts = all.0; upper_bound = all.1 }

@@ -1,13 +1,8 @@
-use mathlib.Core.Path.{ap}
-use Prim.Native.Nat.{◌+◌, ◌-◌, ◌≤◌}
-use lib.ListN.{length}
-use Rattle.laws.proofs.Writing.{length-lent}
+use Prim.Native.Nat.{◌-◌}
 use Rattle.paper.specs.Limits.{run_lines_room}
-use Rattle.paper.specs.Words.{run}
 use Rattle.paper.specs.Text.{run_line}
 use Rattle.record_read.specs.Formed.{table_of}
-use Rattle.record_read.proofs.Table.{table_runs}
-use Rattle.table_lines.proofs.TableLines.{runs_most, Lining, lining_start, lining_at, lining_room, lining_more, lining_end}
+use Rattle.table_lines.proofs.TableLines.{Lining}
 use Rattle.table_lines.proofs.print_runs.Given as goal
 
 abbrev pub invariant-loop-k : goal.invariant-loop-k

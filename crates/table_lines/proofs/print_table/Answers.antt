@@ -20,6 +20,6 @@ returns c =
     let duties = c.print_duties in
     let runs = c.print_runs in
     let is = head_is c.args.b.now c.args.rd c.requires.formed in
-    let head = renamed is (written _ _ _ _ plan.ensures.0.1 plan.ensures.0.0) in
-    let both = grown _ _ _ head duties.ensures.0.0 duties.ensures.0.1 in
-    record { puts = all_written (grown _ _ _ both runs.ensures.0.0 runs.ensures.0.1); upper_bound = search rules }
+    let head = renamed is (written _ _ _ _ plan.ensures.puts.1 plan.ensures.puts.0) in
+    let both = grown _ _ _ head duties.ensures.puts.0 duties.ensures.puts.1 in
+    record { puts = all_written (grown _ _ _ both runs.ensures.puts.0 runs.ensures.puts.1); upper_bound = search rules }
