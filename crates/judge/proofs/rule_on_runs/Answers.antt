@@ -1,5 +1,4 @@
 -- `rule_on_runs`: what the rules of the rows refuse is refused; where they are met, those of the duties decide.
--- Assumes nothing.
 use mathlib.Core.Path.{◌≡◌, sym, ap, ◌∙◌}
 use native.Mathlib.Omega.{arith}
 use borrow.Author.Rules.{rules}
@@ -15,11 +14,11 @@ use Rattle.record_read.proofs.Table.{table_runs}
 use Rattle.judge_runs.specs.Halves.{judge_rows}
 use Rattle.judge_runs.proofs.Halves.{RowsPass, rows_refuse, rows_pass}
 use Rattle.judge.proofs.Ruled.{fault_runs_ruled}
-use Rattle.judge.proofs.rule_on_runs.Statement.{statement}
-use Rattle.judge.proofs.rule_on_runs.Tie as tie
+use Rattle.judge.proofs.rule_on_runs.Goals as goal
+use Rattle.judge.proofs.rule_on_runs.Goals.{Start}
 
 -- the table in the bytes
-abbrev table : tie.Start → Table
+abbrev table : Start → Table
 table s = table_of s.args.b.now s.args.rd
 
 -- the rules of the rows are met
@@ -29,29 +28,22 @@ met t {r} {good} told e =
     let pass = then_answer (judge_rows t) (λ s. answer (reading_of s)) good (sym told ∙ ap judged_as e) in
     rows_pass t pass.0 pass.1
 
-rule-on-service-requires : tie.Need-rule-on-service-requires
-rule-on-service-requires c κs =
-    let start = c.before.before.before.before.before in
-    let pass = met (table start) c.before.before.before.judge-rows.ensures c.before.enum_told.given.1 in
-    let all = table_runs start.args.b.now start.args.rd in
-    (start.requires.0, start.requires.1, omega (arith, pass.apart, all))
+pub rule_on_service-requires : goal.rule_on_service-requires
+rule_on_service-requires c =
+    let pass = met (table (goal.at.rule_on_service-requires c).Start) c.judge_rows-rows.ensures c.in-Accepted.is in
+    let all = table_runs c.args.b.now c.args.rd in
+    (c.requires.0, c.requires.1, omega (arith, pass.apart, all))
 
-returns : tie.Need-returns
-returns c =
-    let t = table c.before.before.before.before.before in
-    let bad = sym c.before.before.before.judge-rows.ensures ∙ ap judged_as c.before.rows.given.1 in
+pub returns-in-Bad : goal.returns-in-Bad
+returns-in-Bad c =
+    let t = table (goal.at.returns-in-Bad c).Start in
+    let bad = sym c.judge_rows-rows.ensures ∙ ap judged_as c.in-Bad.is in
     fault_runs_ruled (rows_refuse t _ _ (then_refused (judge_rows t) reading_of _ _ bad))
 
-returns-2 : tie.Need-returns-2
-returns-2 c =
-    let start = c.before.before.before.before.before.before in
-    let pass = met (table start) c.before.before.before.before.judge-rows.ensures c.before.before.enum_told.given.1 in
+pub returns-in-Accepted : goal.returns-in-Accepted
+returns-in-Accepted c =
+    let pass = met (table (goal.at.returns-in-Accepted c).Start) c.judge_rows-rows.ensures c.in-Accepted.is in
     record {
-      told = c.rule-on-service.ensures.0 ∙ rw pass.decides;
-      edged = λ rd q. c.rule-on-service.ensures.1;
+      told = c.rule_on_service.ensures.result_value ∙ rw pass.decides;
+      edged = λ rd q. c.rule_on_service.ensures.edges_after;
     }
-
-pub rule-on-runs-spec : {M : Type 1} → statement M
-rule-on-runs-spec =
-    tie.close
-    (tie.spec (λ c κs. search rules) (λ c. search rules) (λ c. search rules) rule-on-service-requires returns returns-2)
