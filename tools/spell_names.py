@@ -19,7 +19,7 @@ FALLS = {"block-length": "block_length"}
 SPELLED = {"head_bytes": "head_bytes_lem", "in_ones": "in_ones_lem", "same_code": "same_code_lem", "chain_length": "chain_length_lem", "row_told": "row_told_lem"}
 
 # definitions whose heads the reading below does not see
-WRITTEN = {"buildFrom": "build_from", "rowEntry": "row_entry", "numbersOf": "numbers_of"}
+WRITTEN = {"buildFrom": "build_from", "rowEntry": "row_entry", "numbersOf": "numbers_of", "get_d_set": "get_or_set"}
 
 
 def files(pattern):

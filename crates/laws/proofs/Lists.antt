@@ -136,9 +136,9 @@ set_has P d l i v k h same other =
     by_cases (eqb k i) (λ q. let e = eqb-true k i q in rw (e, get_or-set_same l i v d h) (same e))
     (λ q. let n = eqb-false k i q in rw (get_or-set_other l i k v d n) (other n))
 
-get_d_set : {A : Type 0} (d : A) (l : List A) (i : ℕ) (v : A) (k : ℕ) (x : A) → i < length l → (k ≡ i → v ≡ x)
+get_or_set : {A : Type 0} (d : A) (l : List A) (i : ℕ) (v : A) (k : ℕ) (x : A) → i < length l → (k ≡ i → v ≡ x)
     → ((k ≡ i → ⊥) → get_or l k d ≡ x) → get_or (set l i v) k d ≡ x
-get_d_set d l i v k x h same other = set_has (λ y. y ≡ x) d l i v k h same other
+get_or_set d l i v k x h same other = set_has (λ y. y ≡ x) d l i v k h same other
 
 -- ---- an array that a loop takes from one table to another, entry after entry: f below i, g from there on
 
@@ -152,7 +152,7 @@ pub turned_more : {f g : ℕ → ℕ} {n i : ℕ} {l : List ℕ} (v : ℕ) → T
 turned_more {f} {g} {n} {i} {l} v t h e =
     record {
       long = simp length-set t.long;
-      done = λ k p. get_d_set 0 l i v k (f k) (omega (arith, t.long)) (λ q. rw q e) (λ q. t.done k (omega arith));
+      done = λ k p. get_or_set 0 l i v k (f k) (omega (arith, t.long)) (λ q. rw q e) (λ q. t.done k (omega arith));
       rest = λ k p q. get_or-set_other l i k v 0 (omega arith) ∙ t.rest k (omega arith) q;
     }
 
@@ -198,7 +198,7 @@ pub set_of : {A : Type 0} (d : A) (n i : ℕ) (v : A) (f g : ℕ → A) → i < 
     → set (tab n f) i v ≡ tab n g
 set_of d n i v f g h e o =
     tab_of d n g (set (tab n f) i v) (length-set (tab n f) i v ∙ length-tab n f)
-    (λ k m. get_d_set d (tab n f) i v k (g k) (rw length-tab h) (λ q. rw q e) (λ q. get_or-tab n f d k m ∙ o k q))
+    (λ k m. get_or_set d (tab n f) i v k (g k) (rw length-tab h) (λ q. rw q e) (λ q. get_or-tab n f d k m ∙ o k q))
 
 pub set-tab : (n i v : ℕ) (f g : ℕ → ℕ) → i < n → v ≡ g i → ((k : ℕ) → (k ≡ i → ⊥) → f k ≡ g k) → set (tab n f) i v ≡ tab n g
 set-tab = set_of 0

@@ -22,8 +22,8 @@ use Rattle.paper.specs.Walk.{walk, loads}
 use Rattle.paper.specs.Schedule.{load, loads_in}
 use Rattle.paper.specs.Outcome.{refused, answer}
 use Rattle.paper.specs.Bytes.{encode, head_bytes, duty_bytes, run_bytes, end_bytes}
-use Rattle.paper.specs.Wanted.{duties_of, bad_range, in_range, taken}
-use Rattle.paper.specs.Builder.{plan, plan_at, bad_slice}
+use Rattle.paper.specs.Wanted.{duties_of, in_range, taken}
+use Rattle.paper.specs.Builder.{plan, plan_at}
 use Rattle.paper.specs.Text.{plan_text, print_line, decimal_in}
 use Rattle.paper.specs.Cases.{Case, Says, prints, p1_text, LoadsThen, pieces, outcome, Holds, p1, p2, p3, p4, p5, p6, p7, p8, p9, p10}
 use Rattle.paper.specs.Cases.{outcome_for, HoldsFor, cases, case_at}

@@ -4,7 +4,7 @@
 -- and its length times k, unit v is held by whoever holds unit v/k of the shorter block, the chains are the same, and what an engine runs
 -- at tick n it runs at tick n/k with the shorter blocks.
 -- Assumes nothing.
-use Prim.Native.Nat.{ℕ, suc, ◌+◌, ◌*◌, ◌-◌, ◌/◌, ◌%◌, ◌≤◌, ◌<◌}
+use Prim.Native.Nat.{ℕ, suc, ◌+◌, ◌*◌, ◌-◌, ◌/◌, ◌%◌, ◌≤◌}
 use mathlib.Core.Path.{◌≡◌, refl, sym, ap, ◌∙◌}
 use mathlib.Core.Bool.{Bool}
 use mathlib.Core.List.{List, [], ◌∷◌, map}
@@ -13,7 +13,6 @@ use native.Mathlib.Nat.{le-div_iff_mul-le, div-lt_iff_lt-mul, mul-add-div, div-e
 use native.Mathlib.Nat.{mod-add-div}
 use native.Mathlib.Omega.{arith}
 use lib.Dec.{leb, ltb}
-use lib.ListN.{length}
 use borrow.Author.Tests.{le-leb, lt-leb, lt-ltb, le-ltb, leb-true, leb-false, ltb-true, ltb-false}
 use Rattle.laws.proofs.Cases.{by_cases}
 use Rattle.paper.specs.declared.Row.{Row}

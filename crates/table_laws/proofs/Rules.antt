@@ -11,7 +11,7 @@ use native.Mathlib.Omega.{arith}
 use lib.Dec.{ltb, eqb}
 use lib.ListN.{length}
 use borrow.Author.Tests.{ltb-true, lt-ltb, eqb-true, eqb-false, eq-eqb, ne_eqb, not-false}
-use Rattle.laws.specs.Search.{first, any}
+use Rattle.laws.specs.Search.{any}
 use Rattle.laws.proofs.Cases.{by_cases, lt_or_le, by_order, not_both, refuted, and_left, and_right}
 use Rattle.laws.proofs.Search.{Clear, none_clear, clear_none}
 use Rattle.laws.proofs.Decides.{Decides, Not, divides_decides, none_found}

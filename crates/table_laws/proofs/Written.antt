@@ -8,7 +8,6 @@ use native.Mathlib.Omega.{arith}
 use lib.Dec.{leb, ltb}
 use lib.ListN.{length}
 use borrow.Author.Tests.{le-leb, lt-ltb, le-ltb, eq-eqb, ne_eqb}
-use Rattle.laws.specs.Search.{first}
 use Rattle.laws.specs.Digits.{digits, num_at}
 use Rattle.laws.proofs.Cases.{lt_or_le}
 use Rattle.laws.proofs.Search.{first_is, first_none}

@@ -1,4 +1,4 @@
--- `lowest_twice`: each run is looked at with its duty's earlier runs (`twice_Beside`), and as long as none breaks the rule it is put among
+-- `lowest_twice`: each run is looked at with its duty's earlier runs (`twice_beside`), and as long as none breaks the rule it is put among
 -- them (`sorted_more`).
 use Prim.Native.Nat.{◌+◌, ◌-◌, ◌<◌}
 use mathlib.Core.Path.{◌≡◌, refl, sym, ◌∙◌}
