@@ -73,9 +73,8 @@ for lost in '> /dev/full' '>&-'; do
     ends 4 'plan: the output could not be written' sh -c "./plan --help $lost"
 done
 # the program by itself: it has no status to tell it by, but it says it
-emulator=$(sed -n 1p target/ready/plan)/on/$(uname -m)/toolchain
-program=("$emulator/lib/ld-linux-x86-64.so.2" --library-path "$emulator/lib" target/bin/plan)
-[ ! -x "$emulator/bin/qemu-x86_64" ] || program=("$emulator/bin/qemu-x86_64" "${program[@]}")
+tools=$(sed -n 1p target/ready/plan)/toolchain
+program=("$tools/lib/ld-linux-x86-64.so.2" --library-path "$tools/lib" target/bin/plan)
 ends 0 'plan: the output could not be written' bash -c '"$@" < examples/p1 > /dev/full' bash "${program[@]}"
 ends 0 '' bash -c '"$@" < examples/p1' bash "${program[@]}"
 
@@ -93,42 +92,44 @@ refused '1\n1 1\n1 1\n' '7 0' 'the duties need more than the engines can serve'
 refused '1\nx\n' '9 2' "a line of the plan program's input is faulty.*"
 ends 1 'refused 6, duty 1: ' sh -c "printf '1\n1 1\n1 2\n' | ./plan"
 
-# ---- proving: a house with a stand-in for rt, whose check takes $PACE seconds for each of four crates and fails where two run at once
+# ---- proving: a house with a stand-in for rt, whose check takes $PACE seconds for each of four crates and fails where two run at once; what
+# it makes, it makes where rt does
 
 house="$work/the house"
-mkdir -p "$house/crates" "$work/kit/docs" "$work/bin" "$work/bare" "$work/room"
+mkdir -p "$house/crates" "$work/kit" "$work/bin" "$work/bare" "$work/room"
 cp -r plan scripts include examples "$house/"
-printf '%s\n' '# three and a program' 'one:' 'two: one' 'three: two' 'plan: two io' 'tickplume: three' >"$house/crates.txt"
+printf '%s\n' '# three and a program' 'one:' 'two: one' 'three: two' 'plan: two anyhow' 'tickplume staticlib: three' >"$house/crates.txt"
 for crate in one two three tickplume; do mkdir -p "$house/crates/$crate/src" && : >"$house/crates/$crate/src/lib.rt"; done
 mkdir -p "$house/crates/plan/src" && : >"$house/crates/plan/src/main.rt"
 echo kit-1 >"$work/kit/KIT-ID"
 cat >"$work/bin/uname" <<'UNAME'
 #!/bin/sh
-echo x86_64
+echo "${MACHINE:-x86_64}"
 UNAME
 cat >"$work/bin/rt" <<'RT'
 #!/bin/sh
 case $1 in
-doc) echo "$KIT/docs/START-HERE.md" && exit ;;
+doc) echo "$KIT/START-HERE.md" && exit ;;
 version) cat "$KIT/KIT-ID" && exit ;;
 esac
-echo "$*" >>"$KIT/calls"
-mkdir "$KIT/at-work" 2>/dev/null || { echo "rt: two at once: $2 NOT PROVED" && exit 1; }
+name=$(basename "$PWD")
+echo "$name $*" >>"$KIT/calls"
+mkdir "$KIT/at-work" 2>/dev/null || { echo "rt: two at once: $name NOT PROVED" && exit 1; }
 trap 'rmdir "$KIT/at-work"' EXIT
 trap 'exit 1' TERM INT
 mktemp -d >/dev/null
+mkdir -p out
+case $1 in
+run) printf '#!/bin/sh\ncat >/dev/null\necho plan 1 1 1\n' >out/plan && chmod +x out/plan && exit ;;
+lib) echo archive >out/libtickplume.a && exit ;;
+esac
 for crate in one two three four; do
     sleep "$PACE" &
     wait
+    echo "== $crate"
     echo "fn $crate::f: proved"
-    echo "rt: $crate proved (1 s)"
 done
-[ ! -e "$KIT/broken" ] || { echo "crates/four/Proof.antt:1:1: error: no" && echo "rt: four NOT PROVED" && exit 1; }
-mkdir -p target/bin target/staticlib
-case $1 in
-check) printf '#!/bin/sh\ncat >/dev/null\necho plan 1 1 1\n' >target/bin/plan && chmod +x target/bin/plan ;;
-staticlib) echo archive >target/staticlib/libtickplume.a ;;
-esac
+[ ! -e "$KIT/broken" ] || { echo "four/Proof.antt:1:1: error: no" && echo "== summary" && echo "four: failed (1)" && exit 1; }
 RT
 chmod +x "$work/bin/uname" "$work/bin/rt"
 export KIT=$work/kit PACE=0.01 TMPDIR=$work/room
@@ -140,9 +141,14 @@ done
 # shellcheck disable=SC2317 # called by name
 bare() { PATH=$work/bare "$@"; }
 full() { PATH=$work/bin:$work/bare "$@"; }
-calls() { wc -l <"$KIT/calls" 2>/dev/null || echo 0; }
-anew() { rm -rf "$house/target" "$KIT/calls" "$KIT/broken"; }
-rooms() { find "$work/room" -maxdepth 1 -name 'tickplume.*' | wc -l; } # without df there is no room in memory
+# how often something was proved
+calls() {
+    local n
+    n=$(grep -s -c ' all check' "$KIT/calls")
+    echo "${n:-0}"
+}
+anew() { rm -rf "$house"/target "$house"/crates/*/out "$KIT/calls" "$KIT/broken"; }
+rooms() { find "$work/room" -maxdepth 1 -name 'tickplume.*' | wc -l; }
 cd "$house" || exit 2
 
 # without the kit
@@ -150,6 +156,10 @@ ends 3 "^plan: rt, the Rattle kit's command, is not on the PATH" bare ./plan exa
 is "more than one sentence" test "$(wc -l <"$work/err")" -eq 1
 ends 3 "^native-library: rt, the Rattle kit's command, is not on the PATH" bare sh scripts/native-library tickplume
 ends 0 '' bare ./plan --help
+
+# on a machine that the kit is not for
+MACHINE=aarch64 ends 3 '^plan: the Rattle kit is for x86-64, and this machine is aarch64' full ./plan examples/p1
+MACHINE=aarch64 ends 3 '^native-library: the Rattle kit is for x86-64' full sh scripts/native-library tickplume
 
 # with it: once, quiet where it is quick, and then never again
 ends 0 '' full ./plan examples/p1
@@ -170,6 +180,16 @@ is "not proved again though a file went" test "$(calls)" -eq 3
 echo kit-2 >"$KIT/KIT-ID"
 ends 0 '' full ./plan examples/p1
 is "not proved again by another kit" test "$(calls)" -eq 4
+mkdir crates/two/out
+touch crates/plan/out/plan
+ends 0 '' full ./plan examples/p1
+is "proved again though only what rt left changed" test "$(calls)" -eq 4
+mkdir crates/two/specs
+ends 0 '' full ./plan examples/p1
+is "not proved again though a folder came" test "$(calls)" -eq 5
+rmdir crates/two/specs
+ends 0 '' full ./plan examples/p1
+is "not proved again though a folder went" test "$(calls)" -eq 6
 
 # a program that does not come to its end
 printf '#!/bin/sh\n' >target/bin/plan
@@ -205,6 +225,8 @@ ends 0 '' full sh scripts/native-library tickplume
 is "the library was made again though nothing changed" test "$(calls)" -eq "$was"
 ends 2 "there is no library 'tickplum' in crates.txt" full sh scripts/native-library tickplum
 ends 2 "there is no library 'two/../two' in crates.txt" full sh scripts/native-library two/../two
+ends 2 'two is a library for other crates, and no static library' full sh scripts/native-library two
+ends 2 'plan is a program, not a library' full sh scripts/native-library plan
 ends 0 '' full sh scripts/native-library --help
 ends 2 'usage: native-library NAME' full sh scripts/native-library
 
@@ -220,6 +242,7 @@ anew
 : >"$KIT/broken"
 ends 3 'plan: not proved; target/proving.log has all' full ./plan examples/p1
 is "the error is not told" grep -q 'Proof.antt:1:1: error: no' "$work/err"
+is "the crate is not told" grep -q '^four: failed' "$work/err"
 is "more lines than a few" test "$(wc -l <"$work/err")" -le 5
 rm "$KIT/broken"
 ends 0 '' full ./plan examples/p1
@@ -252,7 +275,7 @@ ends 0 'waiting for it' full sh scripts/native-library tickplume
 wait
 is "two at once disturbed one another" test "$(grep -h -v -e waiting -e 'proving, once' "$work/first" "$work/second")" = "plan 1 1 1
 plan 1 1 1"
-is "the second proved what the first had proved" test "$(grep -c '^check plan' "$KIT/calls")" -eq 1
+is "the second proved what the first had proved" test "$(grep -c '^plan all check' "$KIT/calls")" -eq 1
 
 # interrupted SIGNAL COMMAND..: the signal, to all that a terminal would send it to: nothing goes on, no file stays, the next finds no lock.
 interrupted() {
