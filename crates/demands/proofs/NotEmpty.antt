@@ -26,11 +26,11 @@ use Rattle.paper.specs.Schedule.{served}
 use Rattle.paper.specs.Capacity.{FewestEngines}
 use Rattle.paper.specs.Outcome.{refused, answer}
 use Rattle.paper.specs.Limits.{small, most_engines}
-use Rattle.paper.specs.Bytes.{parse, after_head, after_runs, head_good, duty_good, run_good, end_good, bad_duty, good_runs, table_in, stands}
+use Rattle.paper.specs.Bytes.{parse, after_head, after_runs, table_in, stands}
 use Rattle.paper.specs.Bytes.{duty_in, run_in, encode, bytes_of, head_bytes, duty_bytes, run_bytes, end_bytes}
-use Rattle.paper.specs.Wanted.{Wanted, wanted, duty_set, duties_of, bad_range, in_range, taken}
-use Rattle.paper.specs.Builder.{bad_slice, plan_at, length_meant, plan, fitted, build}
-use Rattle.paper.specs.Rules.{before, meet, unordered, overlaps, joins, twice, lowest, units_of, bad_sum, bad_order, judge_runs, judge_duties}
+use Rattle.paper.specs.Wanted.{Wanted, wanted, duty_set, duties_of, in_range, taken}
+use Rattle.paper.specs.Builder.{plan_at, length_meant, plan, build}
+use Rattle.paper.specs.Rules.{before, meet, unordered, overlaps, joins, twice, units_of, judge_runs, judge_duties}
 use Rattle.paper.specs.Rules.{judge_table, accepted}
 use Rattle.paper.specs.Statements.{Meets}
 use Rattle.paper.specs.Answers.{rows_at, advanced, question}

@@ -33,7 +33,6 @@ use Rattle.paper.specs.declared.RowTold.TheVariants.{At, Refused as NoRow}
 use Rattle.paper.specs.declared.Counted.{Counted}
 use Rattle.paper.specs.declared.Counted.TheVariants.{Loads, Refused as NoCount}
 use Rattle.paper.specs.declared.Held.{Held}
-use Rattle.paper.specs.declared.ShareReading.{ShareReading}
 use Rattle.paper.specs.declared.SharesTold.{SharesTold}
 use Rattle.paper.specs.declared.SharesTold.TheVariants.{Given, Refused as NotGiven}
 use Rattle.paper.specs.declared.ShareAnswer.{ShareAnswer}

@@ -2,11 +2,11 @@
 -- given. Demand 3 reads without rotation: the direct question here takes engines and duties, and equals laying out each block in turn,
 -- repeating after the common multiple."
 -- Assumes nothing.
-use Prim.Native.Nat.{ℕ, ◌+◌, ◌*◌, ◌-◌, ◌/◌, ◌%◌, ◌≤◌, ◌<◌}
+use Prim.Native.Nat.{ℕ, ◌+◌, ◌*◌, ◌/◌, ◌%◌, ◌≤◌, ◌<◌}
 use mathlib.Core.Path.{◌≡◌, refl}
 use mathlib.Core.Bool.{true, false}
 use mathlib.Core.Logic.{◌↔◌}
-use lib.ListN.{length, get_or}
+use lib.ListN.{length}
 use Rattle.laws.proofs.Search.{Clear}
 use Rattle.paper.specs.declared.Engine.{Engine}
 use Rattle.paper.specs.declared.Held.{Held}
@@ -15,11 +15,11 @@ use Rattle.paper.specs.Words.{row, held_in}
 use Rattle.paper.specs.Schedule.{given, served}
 use Rattle.paper.specs.Outcome.{Outcome, answer}
 use Rattle.paper.specs.Wanted.{Wanted}
-use Rattle.paper.specs.Sa2.{Sharing, duty_count, duty_of, share_of, whole_of, raised_units, needs_at, laid_out}
+use Rattle.paper.specs.Sa2.{Sharing, duty_count, duty_of, share_of, raised_units, needs_at, laid_out}
 use Rattle.paper.specs.Shares.{blocks, share_schedule, off_range, off_service, block_fails, share_plan, share_question}
 use Rattle.paper.specs.ShareCases.{Condition33, Condition34, HoldsShares, share_cases, share_case_at}
 use Rattle.plan_laws.proofs.Listed.{Listed}
-use Rattle.share_laws.proofs.Steps.{period_of, need_of, had_to, Enough, InBlocks, need_closed, need_least}
+use Rattle.share_laws.proofs.Steps.{need_of, had_to, Enough, InBlocks, need_closed, need_least}
 use Rattle.share_laws.proofs.ShortWhen.{never_above, service_not_alone}
 use Rattle.share_laws.proofs.Blocks.{sharing_of}
 use Rattle.share_laws.proofs.SharesWhen.{WhenShares, shares_when, WhenAsked, asked_when}

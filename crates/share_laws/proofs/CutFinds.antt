@@ -10,7 +10,6 @@ use native.Mathlib.Omega.{arith}
 use lib.Dec.{leb, ltb}
 use borrow.Author.Tests.{lt-ltb, le-ltb, leb-true, leb-false}
 use Rattle.laws.specs.Choice.{one_if}
-use Rattle.laws.specs.Search.{first}
 use Rattle.laws.specs.Sum.{sum_to}
 use Rattle.laws.proofs.Cases.{lt_or_le}
 use Rattle.laws.proofs.Search.{first-le, first_clear, first_holds}

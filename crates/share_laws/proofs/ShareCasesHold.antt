@@ -19,32 +19,11 @@ use Rattle.paper.specs.Words.{held_in, covers, block_length_of}
 use Rattle.paper.specs.Sa1.{lay, lay_one, row_after, unit_after}
 use Rattle.paper.specs.Schedule.{load, loads_in}
 use Rattle.paper.specs.Outcome.{refused, answer}
-use Rattle.paper.specs.Wanted.{duties_of, bad_range, in_range, taken}
+use Rattle.paper.specs.Wanted.{duties_of, in_range, taken}
 use Rattle.paper.specs.Sa2.{Sharing, free, wants, wanting_to, chosen, raised_units, next_need, needs_at, allotments, laid_out}
 use Rattle.paper.specs.Shares.{common, blocks, share_schedule, share_loads, overloaded, off_range, too_full, job_units, off_service, block_fails}
-use Rattle.paper.specs.Shares.{failing, sharable, roomy, steady, share_plan}
-use Rattle.paper.specs.ShareCases.{
-  ShareCase,
-  SaysShares,
-  HoldsShares,
-  Condition33,
-  Condition34,
-  sharing_in,
-  wanted_in,
-  table3_needs,
-  table3_units,
-  table3_ticks,
-  table3,
-  p5_shared,
-  smallest23,
-  against33,
-  fullest23,
-  too_long,
-  too_much,
-  too_short,
-  share_cases,
-  share_case_at,
-}
+use Rattle.paper.specs.Shares.{failing, sharable, share_plan}
+use Rattle.paper.specs.ShareCases.{SaysShares, HoldsShares, Condition33, Condition34, sharing_in, wanted_in, table3_needs, table3_units, table3_ticks, table3, p5_shared, smallest23, against33, fullest23, too_long, too_much, too_short, share_cases, share_case_at}
 
 -- ---- which of them are given, and which refused
 

@@ -3,7 +3,7 @@
 -- Assumes nothing.
 use Prim.Native.Nat.{ℕ, ◌+◌, ◌*◌, ◌-◌, ◌/◌, ◌%◌, ◌≤◌, ◌<◌}
 use mathlib.Core.Path.{◌≡◌, refl, sym, ap, ◌∙◌}
-use mathlib.Core.Bool.{Bool, true, false, ◌&&◌}
+use mathlib.Core.Bool.{false, ◌&&◌}
 use mathlib.Core.List.{List}
 use native.Mathlib.Omega.{arith}
 use lib.Dec.{leb, ltb}
@@ -15,7 +15,7 @@ use Rattle.laws.proofs.Cases.{by_cases, refuted}
 use Rattle.laws.proofs.Lists.{get_or-tab, tab_zeros, set_two}
 use Rattle.paper.specs.declared.Run.{Run}
 use Rattle.paper.specs.Limits.{most_engines, edge_count}
-use Rattle.paper.specs.Words.{row, stop, covers, run_at, held_in}
+use Rattle.paper.specs.Words.{row, stop, covers, run_at}
 use Rattle.paper.proofs.Holding.{covers-row, held_from_yes, held_from_no, held_from_end}
 use Rattle.table_tally.specs.Tally.{code, edge_unit, edge_of}
 

@@ -1,6 +1,5 @@
 -- `is_amiss`: of each way to stand wrong, its test.
 use Rattle.paper.specs.Rules.{overlaps, joins}
-use borrow.Author.Rules.{rules}
 use Rattle.judge_pairs.proofs.is_amiss.Goals as goal
 
 pub returns-in-Order : goal.returns-in-Order

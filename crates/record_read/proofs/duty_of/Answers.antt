@@ -1,7 +1,6 @@
 -- `duty_of`: the bytes reach past every duty record, and what is read there is the table's duty.
 use mathlib.Core.Path.{sym}
 use Rattle.record_read.proofs.Table.{table_duty}
-use borrow.Author.Rules.{rules}
 use Rattle.record_read.proofs.duty_of.Goals as goal
 
 pub returns : goal.returns

@@ -1,6 +1,5 @@
 -- `read_duty`: its two fields.
 use Rattle.paper.specs.Bytes.{duty_in}
-use borrow.Author.Rules.{rules}
 use Rattle.record_read.proofs.read_duty.Goals as goal
 
 pub returns : goal.returns

@@ -1,6 +1,5 @@
 -- `read_four`: the four bytes, the lowest first.
 use Rattle.laws.proofs.Fields.{num_at_four}
-use borrow.Author.Rules.{rules}
 use Rattle.record_read.proofs.read_four.Goals as goal
 
 pub returns : goal.returns

@@ -1,7 +1,6 @@
 -- `read_one`: a field of one byte is that byte.
 use mathlib.Core.Path.{sym, ◌∙◌}
 use Rattle.laws.proofs.Fields.{num_at_one}
-use borrow.Author.Rules.{rules}
 use Rattle.record_read.proofs.read_one.Goals as goal
 
 pub returns : goal.returns

@@ -1,7 +1,6 @@
 -- `read_run`: its four fields.
 use native.Mathlib.Nat.{add_assoc}
 use Rattle.paper.specs.Bytes.{run_in}
-use borrow.Author.Rules.{rules}
 use Rattle.record_read.proofs.read_run.Goals as goal
 
 pub returns : goal.returns

@@ -1,7 +1,6 @@
 -- `read_two`: the two bytes, the lower first.
 use native.Mathlib.Omega.{arith}
 use Rattle.laws.proofs.Fields.{num_at_two}
-use borrow.Author.Rules.{rules}
 use Rattle.record_read.proofs.read_two.Goals as goal
 
 pub returns : goal.returns

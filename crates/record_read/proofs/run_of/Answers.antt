@@ -1,7 +1,6 @@
 -- `run_of`: the bytes reach past every run record, and what is read there is the table's run.
 use mathlib.Core.Path.{sym}
 use Rattle.record_read.proofs.Table.{table_run}
-use borrow.Author.Rules.{rules}
 use Rattle.record_read.proofs.run_of.Goals as goal
 
 pub returns : goal.returns

@@ -5,7 +5,6 @@ use native.Mathlib.Omega.{arith}
 use lib.ListN.{length}
 use Rattle.paper.proofs.Passed.{standing}
 use Rattle.paper.specs.Limits.{duty_kind, duty_length}
-use borrow.Author.Rules.{rules}
 use Rattle.record_tests.proofs.duty_good.Goals as goal
 use Rattle.record_tests.proofs.duty_good.Goals.{Else-not-record_stands}
 

@@ -5,7 +5,6 @@ use native.Mathlib.Omega.{arith}
 use lib.ListN.{length}
 use Rattle.paper.proofs.Passed.{standing}
 use Rattle.paper.specs.Limits.{end_kind, end_length}
-use borrow.Author.Rules.{rules}
 use Rattle.record_tests.proofs.end_good.Goals as goal
 use Rattle.record_tests.proofs.end_good.Goals.{Else-not-record_stands}
 

@@ -5,7 +5,6 @@ use native.Mathlib.Omega.{arith}
 use lib.ListN.{length}
 use Rattle.paper.specs.Limits.{small, head_length}
 use Rattle.paper.proofs.Passed.{standing}
-use borrow.Author.Rules.{rules}
 use Rattle.record_tests.proofs.head_good.Goals as goal
 use Rattle.record_tests.proofs.head_good.Goals.{Else-not-record_stands}
 

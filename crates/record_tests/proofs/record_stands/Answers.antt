@@ -1,7 +1,6 @@
 -- `record_stands`: the length first, then the kind.
 use borrow.Author.Tests.{le-leb, lt-leb}
 use Rattle.paper.specs.Bytes.{stands}
-use borrow.Author.Rules.{rules}
 use Rattle.record_tests.proofs.record_stands.Goals as goal
 
 pub returns-then-b-at : goal.returns-then-b-at

@@ -5,7 +5,6 @@ use native.Mathlib.Omega.{arith}
 use lib.ListN.{length}
 use Rattle.paper.proofs.Passed.{standing}
 use Rattle.paper.specs.Limits.{small, run_length}
-use borrow.Author.Rules.{rules}
 use Rattle.record_tests.proofs.run_good.Goals as goal
 use Rattle.record_tests.proofs.run_good.Goals.{Else-not-record_stands}
 

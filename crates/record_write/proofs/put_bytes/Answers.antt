@@ -1,12 +1,12 @@
 -- `put_bytes`: after i turns all of the bytes but those from i on are laid over the buffer.
 use mathlib.Core.Path.{◌≡◌, refl}
-use Prim.Native.Nat.{◌+◌, ◌≤◌, ◌-◌}
+use Prim.Native.Nat.{◌+◌}
 use native.Mathlib.Numerals.{add-one}
 use borrow.Author.Rules.{rules}
 use mathlib.Core.List.{[], ◌∷◌}
-use lib.ListN.{length, drop, get_or, length-set, drop_of_length-le}
+use lib.ListN.{drop, get_or, length-set, drop_of_length-le}
 use lib.Seq.{drop-cons}
-use Rattle.laws.proofs.Writing.{Wrote, unwritten, stored, done, next}
+use Rattle.laws.proofs.Writing.{unwritten, stored, done, next}
 use Rattle.record_write.proofs.put_bytes.Goals as goal
 
 pub loop-i-init : goal.loop-i-init

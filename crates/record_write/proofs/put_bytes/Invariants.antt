@@ -1,10 +1,7 @@
-use mathlib.Core.Path.{◌≡◌, refl}
-use Prim.Native.Nat.{◌+◌, ◌≤◌, ◌-◌}
-use native.Mathlib.Numerals.{add-one}
-use mathlib.Core.List.{[], ◌∷◌}
-use lib.ListN.{length, drop, get_or, length-set, drop_of_length-le}
-use lib.Seq.{drop-cons}
-use Rattle.laws.proofs.Writing.{Wrote, unwritten, stored, done, next}
+use mathlib.Core.Path.{◌≡◌}
+use Prim.Native.Nat.{◌≤◌, ◌-◌}
+use lib.ListN.{length, drop}
+use Rattle.laws.proofs.Writing.{Wrote}
 use Rattle.record_write.proofs.put_bytes.Given as goal
 
 abbrev pub invariant-loop-i : goal.invariant-loop-i

@@ -1,12 +1,12 @@
 -- `put_field`: after i turns all of the field's bytes but those of what is left of the number are laid over the buffer.
 use mathlib.Core.Path.{◌≡◌, refl}
-use Prim.Native.Nat.{ℕ, ◌-◌, ◌%◌, ◌≤◌}
+use Prim.Native.Nat.{ℕ, ◌-◌, ◌%◌}
 use native.Mathlib.Omega.{arith}
 use borrow.Author.Rules.{rules}
-use lib.ListN.{length, length-set}
+use lib.ListN.{length-set}
 use Rattle.laws.specs.Digits.{digits}
 use Rattle.laws.proofs.Digits.{digits_left, digits_none}
-use Rattle.laws.proofs.Writing.{Wrote, unwritten, stored, done, next}
+use Rattle.laws.proofs.Writing.{unwritten, stored, done, next}
 use Rattle.record_write.proofs.put_field.Goals as goal
 
 -- at first all of a field is left

@@ -1,9 +1,8 @@
-use mathlib.Core.Path.{◌≡◌, refl}
-use Prim.Native.Nat.{ℕ, ◌-◌, ◌%◌, ◌≤◌}
-use lib.ListN.{length, length-set}
+use mathlib.Core.Path.{◌≡◌}
+use Prim.Native.Nat.{◌-◌, ◌≤◌}
+use lib.ListN.{length}
 use Rattle.laws.specs.Digits.{digits}
-use Rattle.laws.proofs.Digits.{digits_left, digits_none}
-use Rattle.laws.proofs.Writing.{Wrote, unwritten, stored, done, next}
+use Rattle.laws.proofs.Writing.{Wrote}
 use Rattle.record_write.proofs.put_field.Given as goal
 
 abbrev pub invariant-loop-i : goal.invariant-loop-i

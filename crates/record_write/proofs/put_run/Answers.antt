@@ -3,7 +3,6 @@ use mathlib.Core.Path.{◌∙◌}
 use mathlib.Core.List.{[], ◌++◌}
 use native.Mathlib.Nat.{le_refl}
 use native.Mathlib.Omega.{arith}
-use borrow.Author.Rules.{rules}
 use Rattle.laws.specs.Digits.{digits}
 use Rattle.laws.proofs.Writing.{begun, more, done}
 use Rattle.paper.specs.Bytes.{run_bytes}

@@ -1,7 +1,5 @@
-use mathlib.Core.Path.{◌≡◌, refl, sym, ap, ◌∙◌}
-use native.Mathlib.Nat.{mod-lt}
+use mathlib.Core.Path.{◌≡◌}
 use Rattle.laws.specs.Divisor.{gcd}
-use Rattle.laws.proofs.Divisor.{gcd-zero, gcd_step}
 use Rattle.slices.proofs.gcd_of.Given as goal
 
 abbrev pub invariant-loop-y : goal.invariant-loop-y

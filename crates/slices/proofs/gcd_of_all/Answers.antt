@@ -1,9 +1,7 @@
 -- `gcd_of_all`: the divisor so far, with those of the periods that are left, is that of them all.
-use mathlib.Core.Path.{◌≡◌, sym, ◌∙◌}
-use Prim.Native.Nat.{◌≤◌, ◌-◌}
+use mathlib.Core.Path.{sym, ◌∙◌}
 use borrow.Author.Rules.{rules}
-use lib.ListN.{length, drop}
-use Rattle.laws.specs.Divisor.{gcd, gcd_of}
+use Rattle.laws.specs.Divisor.{gcd_of}
 use Rattle.laws.proofs.Divisor.{gcd-start, gcd_further, gcd-finished}
 use Rattle.slices.proofs.gcd_of_all.Goals as goal
 

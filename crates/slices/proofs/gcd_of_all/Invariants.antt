@@ -1,8 +1,7 @@
-use mathlib.Core.Path.{◌≡◌, sym, ◌∙◌}
+use mathlib.Core.Path.{◌≡◌}
 use Prim.Native.Nat.{◌≤◌, ◌-◌}
 use lib.ListN.{length, drop}
 use Rattle.laws.specs.Divisor.{gcd, gcd_of}
-use Rattle.laws.proofs.Divisor.{gcd-start, gcd_further, gcd-finished}
 use Rattle.slices.proofs.gcd_of_all.Given as goal
 
 abbrev pub invariant-loop-i : goal.invariant-loop-i

@@ -1,6 +1,5 @@
 -- `is_whole` tests what `whole` says, on the product that `scaled` gives.
 use mathlib.Core.Path.{sym}
-use borrow.Author.Rules.{rules}
 use Rattle.slices.proofs.Shares.{whole_is}
 use Rattle.slices.proofs.is_whole.Goals as goal
 

@@ -1,6 +1,5 @@
 -- `range_fault`: 5 where the period is in range, else 4.
 use mathlib.Core.Path.{sym, ◌∙◌}
-use borrow.Author.Rules.{rules}
 use Rattle.slices.proofs.range_fault.Goals as goal
 
 pub returns-then-period_in_range : goal.returns-then-period_in_range

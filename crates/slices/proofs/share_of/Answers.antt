@@ -3,7 +3,6 @@ use Prim.Native.Nat.{◌/◌, ◌≤◌}
 use mathlib.Core.Path.{sym}
 use native.Mathlib.Nat.{div-le_of_le-mul, mul-le-mul_left, mod-lt}
 use native.Mathlib.Omega.{arith}
-use borrow.Author.Rules.{rules}
 use Rattle.slices.proofs.Shares.{slice_is}
 use Rattle.slices.proofs.share_of.Goals as goal
 use Rattle.slices.proofs.share_of.Goals.{After-struct_known-1}

@@ -1,10 +1,7 @@
 -- `bad_duty`: a search for the first duty record that is no good.
-use Prim.Native.Nat.{◌-◌}
 use mathlib.Core.Bool.{not}
 use borrow.Author.Rules.{rules}
-use Rattle.laws.proofs.Search.{Seeking, seek_none, seek_more, seek_hit, seek_miss}
-use Rattle.paper.specs.Limits.{small}
-use Rattle.paper.specs.Bytes.{duty_good, bad_duty, duty_place}
+use Rattle.laws.proofs.Search.{seek_none, seek_more, seek_hit, seek_miss}
 use mathlib.Core.Path.{ap}
 use Rattle.table_form.proofs.bad_duty.Goals as goal
 

@@ -1,9 +1,8 @@
 use Prim.Native.Nat.{◌-◌}
 use mathlib.Core.Bool.{not}
-use Rattle.laws.proofs.Search.{Seeking, seek_none, seek_more, seek_hit, seek_miss}
+use Rattle.laws.proofs.Search.{Seeking}
 use Rattle.paper.specs.Limits.{small}
-use Rattle.paper.specs.Bytes.{duty_good, bad_duty, duty_place}
-use mathlib.Core.Path.{ap}
+use Rattle.paper.specs.Bytes.{duty_good, duty_place}
 use Rattle.table_form.proofs.bad_duty.Given as goal
 
 abbrev pub invariant-loop-d : goal.invariant-loop-d

@@ -1,10 +1,7 @@
 -- `good_runs`: a search for the first record that is no good run, through as many places as a table may have runs.
-use Prim.Native.Nat.{◌-◌}
 use mathlib.Core.Bool.{not}
 use borrow.Author.Rules.{rules}
-use Rattle.laws.proofs.Search.{Seeking, seek_none, seek_more, seek_hit, seek_miss}
-use Rattle.paper.specs.Limits.{small, most_runs}
-use Rattle.paper.specs.Bytes.{run_good, good_runs, run_place}
+use Rattle.laws.proofs.Search.{seek_none, seek_more, seek_hit, seek_miss}
 use mathlib.Core.Path.{ap}
 use Rattle.table_form.proofs.good_runs.Goals as goal
 

@@ -1,9 +1,8 @@
 use Prim.Native.Nat.{◌-◌}
 use mathlib.Core.Bool.{not}
-use Rattle.laws.proofs.Search.{Seeking, seek_none, seek_more, seek_hit, seek_miss}
+use Rattle.laws.proofs.Search.{Seeking}
 use Rattle.paper.specs.Limits.{small, most_runs}
-use Rattle.paper.specs.Bytes.{run_good, good_runs, run_place}
-use mathlib.Core.Path.{ap}
+use Rattle.paper.specs.Bytes.{run_good, run_place}
 use Rattle.table_form.proofs.good_runs.Given as goal
 
 abbrev pub invariant-loop-k : goal.invariant-loop-k

@@ -1,5 +1,4 @@
 -- `edge`: a run covers a unit of its own row exactly where it has the unit.
-use borrow.Author.Rules.{rules}
 use Rattle.table_tally.proofs.Edged.{covers_own}
 use Rattle.table_tally.proofs.edge.Goals as goal
 

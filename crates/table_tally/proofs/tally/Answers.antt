@@ -1,12 +1,12 @@
 -- `tally`: the entries tell what the runs passed so far come to, from the last run on.
-use Prim.Native.Nat.{◌-◌, ◌≤◌, ◌<◌}
+use Prim.Native.Nat.{◌≤◌, ◌<◌}
 use mathlib.Core.Path.{◌∙◌, ◌≡◌, refl, ap}
 use native.Mathlib.Omega.{arith}
 use lib.ListN.{length}
 use Rattle.paper.specs.Limits.{most_duties, most_ticks}
 use Rattle.record_read.specs.Formed.{table_of}
 use Rattle.record_read.proofs.Table.{table_runs, table_ticks}
-use Rattle.table_tally.proofs.Edged.{edges_from, edges_none, edges_back}
+use Rattle.table_tally.proofs.Edged.{edges_none, edges_back}
 use Rattle.table_tally.proofs.Tallied.{units_from, units_none, units_back, units_bound, units_ranged}
 use Rattle.table_tally.proofs.tally.Goals as goal
 

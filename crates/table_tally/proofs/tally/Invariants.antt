@@ -1,11 +1,8 @@
-use Prim.Native.Nat.{◌-◌, ◌≤◌, ◌<◌}
-use mathlib.Core.Path.{◌∙◌, ◌≡◌, refl, ap}
-use lib.ListN.{length}
-use Rattle.paper.specs.Limits.{most_duties, most_ticks}
+use Prim.Native.Nat.{◌-◌, ◌≤◌}
+use mathlib.Core.Path.{◌≡◌}
 use Rattle.record_read.specs.Formed.{table_of}
-use Rattle.record_read.proofs.Table.{table_runs, table_ticks}
-use Rattle.table_tally.proofs.Edged.{edges_from, edges_none, edges_back}
-use Rattle.table_tally.proofs.Tallied.{units_from, units_none, units_back, units_bound, units_ranged}
+use Rattle.table_tally.proofs.Edged.{edges_from}
+use Rattle.table_tally.proofs.Tallied.{units_from}
 use Rattle.table_tally.proofs.tally.Given as goal
 
 abbrev pub invariant-loop-k : goal.invariant-loop-k

@@ -1,5 +1,4 @@
 -- `covers_at`: of the run that was read.
-use borrow.Author.Rules.{rules}
 use Rattle.unit_holder.proofs.covers_at.Goals as goal
 
 pub returns : goal.returns

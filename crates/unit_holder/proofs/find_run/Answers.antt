@@ -1,11 +1,8 @@
 -- `find_run`: every run passed does not cover the unit, so the loop stops at the first that does, or at the end.
-use Prim.Native.Nat.{◌-◌}
-use mathlib.Core.Path.{◌≡◌, sym, ◌∙◌}
+use mathlib.Core.Path.{sym, ◌∙◌}
 use native.Mathlib.Omega.{arith}
 use borrow.Author.Rules.{rules}
-use Rattle.laws.proofs.Search.{Seeking, seek_none, seek_more, seek_hit, seek_miss}
-use Rattle.paper.specs.Words.{covers, run_at}
-use Rattle.record_read.specs.Formed.{table_of}
+use Rattle.laws.proofs.Search.{seek_none, seek_more, seek_hit, seek_miss}
 use Rattle.unit_holder.proofs.find_run.Goals as goal
 
 pub loop-k-init : goal.loop-k-init

@@ -1,6 +1,6 @@
 use Prim.Native.Nat.{◌-◌}
-use mathlib.Core.Path.{◌≡◌, sym, ◌∙◌}
-use Rattle.laws.proofs.Search.{Seeking, seek_none, seek_more, seek_hit, seek_miss}
+use mathlib.Core.Path.{◌≡◌}
+use Rattle.laws.proofs.Search.{Seeking}
 use Rattle.paper.specs.Words.{covers, run_at}
 use Rattle.record_read.specs.Formed.{table_of}
 use Rattle.unit_holder.proofs.find_run.Given as goal
