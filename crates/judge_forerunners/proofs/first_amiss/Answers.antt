@@ -1,6 +1,5 @@
 -- `first_amiss`: the search for any of the three ways, from run 1 on.
 use Rattle.laws.proofs.Search.{compare_none}
-use borrow.Author.Rules.{rules}
 use Rattle.judge_forerunners.proofs.first_amiss.Goals as goal
 
 pub lowest_amiss-requires : goal.lowest_amiss-requires

@@ -4,7 +4,7 @@ use mathlib.Core.Path.{◌≡◌, sym, ◌∙◌}
 use mathlib.Core.Bool.{Bool}
 use mathlib.Core.List.{List}
 use borrow.Author.Rules.{rules}
-use Rattle.laws.proofs.Search.{Comparing, compare_more, compare_hit, compare_miss}
+use Rattle.laws.proofs.Search.{compare_more, compare_hit, compare_miss}
 use Rattle.paper.specs.declared.Run.{Run}
 use Rattle.paper.specs.Words.{run_at}
 use Rattle.record_read.specs.Formed.{table_of}

@@ -1,14 +1,6 @@
-use Prim.Native.Nat.{ℕ, ◌-◌}
-use mathlib.Core.Path.{◌≡◌, sym, ◌∙◌}
-use mathlib.Core.Bool.{Bool}
-use mathlib.Core.List.{List}
-use Rattle.laws.proofs.Search.{Comparing, compare_more, compare_hit, compare_miss}
-use Rattle.paper.specs.declared.Run.{Run}
-use Rattle.paper.specs.Words.{run_at}
+use Prim.Native.Nat.{◌-◌}
+use Rattle.laws.proofs.Search.{Comparing}
 use Rattle.record_read.specs.Formed.{table_of}
-use Rattle.record_read.proofs.Table.{table_runs}
-use Rattle.judge_pairs.specs.declared.Amiss.{Amiss}
-use Rattle.judge_pairs.specs.Amiss.{amiss}
 use Rattle.judge_forerunners.specs.Amiss.{amiss_at}
 use Rattle.judge_forerunners.proofs.lowest_amiss.Given as goal
 

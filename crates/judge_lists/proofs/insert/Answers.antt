@@ -2,7 +2,6 @@
 use Prim.Native.Nat.{ℕ}
 use mathlib.Core.Path.{ap}
 use lib.ListN.{get_or, set}
-use borrow.Author.Rules.{rules}
 use Rattle.judge_lists.proofs.insert.Goals as goal
 
 pub returns : goal.returns

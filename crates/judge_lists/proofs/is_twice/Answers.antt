@@ -1,6 +1,5 @@
 -- `is_twice`: the spot and its pointer are run k's two neighbours in its duty's list, and they are enough (`twice-told`).
 use native.Mathlib.Omega.{arith}
-use borrow.Author.Rules.{rules}
 use Rattle.laws.proofs.SortedLists.{spot_room, pointer_few}
 use Rattle.record_read.proofs.Table.{table_runs}
 use Rattle.table_laws.proofs.SortedRuns.{twice-told}

@@ -1,11 +1,10 @@
 -- `spot_of`: as long as the pointer leads to a run that starts before run k, the search goes there (`step_on`); where it does not, the spot
 -- is run k's (`step_none`). With every step the spot's first unit grows, and it stays below run k's.
-use Prim.Native.Nat.{◌+◌, ◌-◌, ◌<◌}
+use Prim.Native.Nat.{◌-◌, ◌<◌}
 use mathlib.Core.Path.{◌≡◌, sym, ◌∙◌}
 use mathlib.Core.Bool.{Bool, true}
 use native.Mathlib.Omega.{arith}
 use lib.ListN.{length, get_or}
-use borrow.Author.Rules.{rules}
 use Rattle.laws.proofs.SortedLists.{Below, rank, spot_room, pointer_few}
 use Rattle.paper.specs.Words.{run_at}
 use Rattle.record_read.specs.Formed.{table_of}

@@ -1,12 +1,8 @@
-use Prim.Native.Nat.{◌+◌, ◌-◌, ◌<◌}
-use mathlib.Core.Path.{◌≡◌, sym, ◌∙◌}
-use mathlib.Core.Bool.{Bool}
-use lib.ListN.{length, get_or}
-use Rattle.laws.proofs.SortedLists.{Below, rank, spot_room, pointer_few}
+use Prim.Native.Nat.{◌+◌, ◌-◌}
+use Rattle.laws.proofs.SortedLists.{Below, rank}
 use Rattle.paper.specs.Words.{run_at}
 use Rattle.record_read.specs.Formed.{table_of}
-use Rattle.table_laws.proofs.SortedRuns.{kept, starts_before, step_on, step_none}
-use Rattle.judge_lists.proofs.Listed.{in_list, owned}
+use Rattle.table_laws.proofs.SortedRuns.{kept}
 use Rattle.judge_lists.proofs.spot_of.Given as goal
 
 abbrev pub invariant-loop-rd : goal.invariant-loop-rd

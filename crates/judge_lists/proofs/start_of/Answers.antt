@@ -4,7 +4,6 @@ use native.Mathlib.Omega.{arith}
 use mathlib.Core.Path.{◌≡◌, sym, ap, ◌∙◌}
 use mathlib.Core.Bool.{true}
 use lib.ListN.{get_or}
-use borrow.Author.Rules.{rules}
 use Rattle.laws.proofs.SortedLists.{below_front, recent_few}
 use Rattle.paper.specs.declared.Run.{Run}
 use Rattle.paper.specs.Words.{run_at}

@@ -1,6 +1,5 @@
 -- `starts_before`: the pointer 0 leads to no run; else the run is read.
 use native.Mathlib.Omega.{arith}
-use borrow.Author.Rules.{rules}
 use Rattle.record_read.specs.Formed.{table_of}
 use Rattle.table_laws.proofs.SortedRuns.{starts_some}
 use Rattle.judge_lists.proofs.starts_before.Goals as goal

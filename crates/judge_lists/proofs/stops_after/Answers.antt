@@ -1,6 +1,5 @@
 -- `stops_after`: a spot behind the runs is a front; else it is that of a run, which is read.
 use native.Mathlib.Omega.{arith}
-use borrow.Author.Rules.{rules}
 use Rattle.record_read.specs.Formed.{table_of}
 use Rattle.record_read.proofs.Table.{table_runs}
 use Rattle.table_laws.proofs.SortedRuns.{stops_front, stops_run}
