@@ -8,8 +8,8 @@ specs=crates/paper/specs
 
 # used FILE: the files of definitions that it uses, and the declared types, as declared.NAME.
 used() {
-    sed -n -e 's/^use Rattle·paper·specs\.specs\.\(declared\.[A-Za-z]*\).*/\1/p' \
-        -e 's/^use Rattle·paper·specs\.specs\.\([A-Z][A-Za-z0-9]*\).*/\1/p' "$specs/$1.antt"
+    sed -n -e 's/^use Rattle\.paper\.specs\.\(declared\.[A-Za-z]*\).*/\1/p' \
+        -e 's/^use Rattle\.paper\.specs\.\([A-Z][A-Za-z0-9]*\).*/\1/p' "$specs/$1.antt"
 }
 
 files=(Capacity)
