@@ -3,8 +3,8 @@
 -- does.
 -- Assumes nothing.
 use Prim.Native.Nat.{ℕ, zero, suc, ◌+◌, ◌*◌, ◌-◌, ◌≤◌, ◌<◌}
-use mathlib.Core.Path.{◌≡◌, refl, sym, ap, ◌∙◌}
-use mathlib.Core.Bool.{true, false}
+use mathlib.Core.Path.{◌≡◌, sym, ap, ◌∙◌}
+use mathlib.Core.Bool.{true}
 use mathlib.Core.List.{List}
 use native.Mathlib.Numerals.{add-one}
 use native.Mathlib.Omega.{arith}
@@ -20,14 +20,14 @@ use Rattle.paper.specs.Rotation.{next_of, link}
 use Rattle.paper.specs.Walk.{loads}
 use Rattle.walk_laws.proofs.Page.{next_linked, next_last, carried, InChain, chain_first, chain_other, Onward, carried_is, carried_few}
 use Rattle.walk_laws.proofs.Page.{loads_are}
-use Rattle.record_read.specs.Formed.{Formed, table_of}
+use Rattle.record_read.specs.Formed.{table_of}
 use Rattle.record_read.proofs.Table.{table_runs, table_engines, table_ranged}
 use Rattle.table_tally.specs.Tally.{edges_of}
 use Rattle.table_tally.specs.Ready.{Ready}
 use Rattle.table_tally.proofs.Linked.{same_code_lem, Narrow, first_tells, last_tells, link_code, formed_narrow}
 use Rattle.row_edges.specs.Links.{first_edge, last_edge, link_of, same_code}
 use Rattle.row_edges.proofs.Linking.{link_at}
-use Rattle.carried_over.specs.Carried.{carries_of, carried_of, closes_of, carried_in}
+use Rattle.carried_over.specs.Carried.{carries_of, carried_of, carried_in}
 
 -- the count, row by row
 module _ (edges : List ℕ) where

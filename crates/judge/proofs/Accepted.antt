@@ -9,7 +9,7 @@ use Rattle.paper.specs.Words.{Table}
 use Rattle.paper.specs.Limits.{small}
 use Rattle.paper.specs.Outcome.{Outcome, refused, answer, and_then}
 use Rattle.paper.specs.Bytes.{duties_in, good_runs, table_in, read_table}
-use Rattle.paper.specs.Rules.{judge_duties, judge_runs, judge_table, accepted, reading_of, judged}
+use Rattle.paper.specs.Rules.{judge_duties, judge_runs, accepted, reading_of, judged}
 use Rattle.paper.specs.Statements.{Meets}
 use Rattle.paper.proofs.Outcomes.{answer_one, then_refused, then_answer}
 use Rattle.table_laws.proofs.Accepted.{accepted-read, accepted_iff, ranged_long, read_refused, read-judged, duties_refuse, duties_pass}

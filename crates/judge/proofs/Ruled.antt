@@ -1,10 +1,9 @@
 -- A ruling that is a fault: it is told as such, and nothing is ready to be asked.
 -- Assumes nothing.
 use Prim.Native.Nat.{ℕ}
-use mathlib.Core.Path.{◌≡◌, sym, ap, ◌∙◌}
+use mathlib.Core.Path.{◌≡◌, sym, ap}
 use mathlib.Core.List.{List}
 use Rattle.paper.specs.declared.Fault.{Fault}
-use Rattle.paper.specs.declared.Judged.{Judged}
 use Rattle.paper.specs.declared.Judged.TheVariants.{Bad}
 use Rattle.paper.specs.Outcome.{refused_as, refusal_of, judged_as}
 use Rattle.paper.specs.Words.{Table}

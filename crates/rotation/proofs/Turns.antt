@@ -1,7 +1,7 @@
 -- A chain in a block: the engine of each of its rows has, that block, the row so many places further round (the closed form of the
 -- rotation).
 -- Assumes nothing.
-use Prim.Native.Nat.{ℕ, ◌+◌, ◌%◌, ◌≤◌, ◌<◌}
+use Prim.Native.Nat.{ℕ, ◌+◌, ◌≤◌, ◌<◌}
 use mathlib.Core.Path.{◌≡◌, sym, ap, ◌∙◌}
 use mathlib.Core.Bool.{Bool}
 use native.Mathlib.Nat.{mod-lt}

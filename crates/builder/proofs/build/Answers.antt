@@ -1,6 +1,5 @@
 -- `build`: what tests 1 to 5 refuse is refused; what they take is built.
 use mathlib.Core.Path.{sym, ◌∙◌}
-use borrow.Author.Rules.{rules}
 use lib.ListN.{length}
 use Rattle.paper.specs.Wanted.{wanted}
 use Rattle.paper.proofs.Outcomes.{writes_refused}

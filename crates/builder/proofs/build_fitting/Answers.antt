@@ -4,9 +4,7 @@ use Prim.Native.Nat.{ℕ, ◌*◌, ◌≤◌}
 use mathlib.Core.Path.{◌≡◌, sym, ap, ◌∙◌}
 use mathlib.Core.List.{List}
 use native.Mathlib.Omega.{arith}
-use borrow.Author.Rules.{rules}
 use lib.ListN.{length}
-use Rattle.paper.specs.declared.Duty.{Duty}
 use Rattle.paper.specs.declared.Written.TheVariants.{Length}
 use Rattle.paper.specs.Sa1.{sa1}
 use Rattle.paper.specs.Outcome.{Outcome, answer, and_then, written_as}

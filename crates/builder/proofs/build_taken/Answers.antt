@@ -1,6 +1,4 @@
 -- `build_taken`: by the greatest common divisor and the length that is meant, 24 or what is built for that length.
-use Prim.Native.Nat.{ℕ}
-use borrow.Author.Rules.{rules}
 use lib.ListN.{length}
 use Rattle.paper.specs.Wanted.{Wanted, wanted}
 use Rattle.paper.proofs.Outcomes.{writes_same, writes_refused}

@@ -1,10 +1,7 @@
 -- `carried`: chain by chain; where one ends the next begins, and the last ends with the rows.
-use Prim.Native.Nat.{◌-◌, ◌≤◌}
 use mathlib.Core.Path.{◌≡◌, sym, ap, ◌∙◌}
 use native.Mathlib.Omega.{arith}
-use Rattle.paper.specs.Rotation.{first_of}
 use Rattle.walk_laws.proofs.Page.{first_zero, onward}
-use Rattle.row_edges.specs.Links.{link_of}
 use Rattle.carried_over.specs.Carried.{carried_of}
 use Rattle.carried_over.proofs.Carrying.{carried_none, carried_onward}
 use borrow.Author.Rules.{rules}

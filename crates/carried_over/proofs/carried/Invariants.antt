@@ -1,10 +1,8 @@
 use Prim.Native.Nat.{◌-◌, ◌≤◌}
-use mathlib.Core.Path.{◌≡◌, sym, ap, ◌∙◌}
+use mathlib.Core.Path.{◌≡◌}
 use Rattle.paper.specs.Rotation.{first_of}
-use Rattle.walk_laws.proofs.Page.{first_zero, onward}
 use Rattle.row_edges.specs.Links.{link_of}
 use Rattle.carried_over.specs.Carried.{carried_of}
-use Rattle.carried_over.proofs.Carrying.{carried_none, carried_onward}
 use Rattle.carried_over.proofs.carried.Given as goal
 
 abbrev pub invariant-loop-first : goal.invariant-loop-first

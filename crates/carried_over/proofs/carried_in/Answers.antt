@@ -1,8 +1,7 @@
 -- `carried_in`: one row more where the chain closes.
-use mathlib.Core.Path.{◌≡◌, sym, ap, ◌∙◌}
+use mathlib.Core.Path.{sym, ap, ◌∙◌}
 use native.Mathlib.Omega.{arith}
 use Rattle.laws.specs.Choice.{one_if}
-use borrow.Author.Rules.{rules}
 use Rattle.carried_over.proofs.carried_in.Goals as goal
 
 pub returns-then-closes : goal.returns-then-closes

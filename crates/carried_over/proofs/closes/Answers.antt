@@ -1,6 +1,5 @@
 -- `closes`: the two edges, compared.
 use mathlib.Core.Path.{◌∙◌}
-use borrow.Author.Rules.{rules}
 use Rattle.carried_over.proofs.closes.Goals as goal
 
 pub returns : goal.returns

@@ -1,12 +1,10 @@
 -- `rows_at`: what stands so far is the block's rows of the engines passed, and past them there stands 0; the last one's chain is at hand.
-use Prim.Native.Nat.{◌-◌, ◌≤◌, ◌<◌}
+use Prim.Native.Nat.{◌<◌}
 use mathlib.Core.Path.{◌≡◌, ◌∙◌}
 use native.Mathlib.Omega.{arith}
 use Rattle.paper.specs.Limits.{most_engines}
-use Rattle.paper.specs.Answers.{rows_at}
 use Rattle.row_edges.specs.Links.{link_of}
 use Rattle.rotation.proofs.Turns.{places_few, row_turned}
-use Rattle.dispatch_rows.specs.AtHand.{AtHand}
 use Rattle.dispatch_rows.proofs.AtHand.{none_at_hand, next_at_hand}
 use Rattle.dispatch_rows.proofs.Filling.{rows_none, rows_more}
 use Rattle.dispatch_rows.proofs.rows_at.Goals as goal

@@ -1,12 +1,8 @@
-use Prim.Native.Nat.{◌-◌, ◌≤◌, ◌<◌}
-use mathlib.Core.Path.{◌≡◌, ◌∙◌}
-use Rattle.paper.specs.Limits.{most_engines}
+use Prim.Native.Nat.{◌-◌, ◌≤◌}
+use mathlib.Core.Path.{◌≡◌}
 use Rattle.paper.specs.Answers.{rows_at}
 use Rattle.row_edges.specs.Links.{link_of}
-use Rattle.rotation.proofs.Turns.{places_few, row_turned}
 use Rattle.dispatch_rows.specs.AtHand.{AtHand}
-use Rattle.dispatch_rows.proofs.AtHand.{none_at_hand, next_at_hand}
-use Rattle.dispatch_rows.proofs.Filling.{rows_none, rows_more}
 use Rattle.dispatch_rows.proofs.rows_at.Given as goal
 
 abbrev pub invariant-loop-i : goal.invariant-loop-i

@@ -1,11 +1,7 @@
 -- `same_rows`: every index passed agrees; one that does not tells the lists apart.
-use Prim.Native.Nat.{ℕ, ◌-◌, ◌≤◌, ◌<◌}
-use mathlib.Core.Path.{◌≡◌, sym}
+use mathlib.Core.Path.{sym}
 use native.Mathlib.Omega.{arith}
-use lib.ListN.{get_or}
 use borrow.Author.Count.{below_none, below_more}
-use Rattle.paper.specs.Limits.{most_engines}
-use Rattle.paper.specs.Words.{row}
 use Rattle.dispatch_rows.proofs.Filling.{same_not, same_all}
 use Rattle.dispatch_rows.proofs.same_rows.Goals as goal
 

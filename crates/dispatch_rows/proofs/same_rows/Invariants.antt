@@ -1,10 +1,8 @@
 use Prim.Native.Nat.{ℕ, ◌-◌, ◌≤◌, ◌<◌}
-use mathlib.Core.Path.{◌≡◌, sym}
+use mathlib.Core.Path.{◌≡◌}
 use lib.ListN.{get_or}
-use borrow.Author.Count.{below_none, below_more}
 use Rattle.paper.specs.Limits.{most_engines}
 use Rattle.paper.specs.Words.{row}
-use Rattle.dispatch_rows.proofs.Filling.{same_not, same_all}
 use Rattle.dispatch_rows.proofs.same_rows.Given as goal
 
 abbrev pub invariant-loop-i : goal.invariant-loop-i

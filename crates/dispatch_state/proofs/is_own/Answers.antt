@@ -1,5 +1,4 @@
 -- `is_own`: against the rows of the block.
-use borrow.Author.Rules.{rules}
 use Rattle.dispatch_state.proofs.is_own.Goals as goal
 
 pub returns : goal.returns

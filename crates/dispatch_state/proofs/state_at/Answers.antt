@@ -1,6 +1,5 @@
 -- `state_at`: the rows of the block are filled in.
 use mathlib.Core.Path.{refl}
-use borrow.Author.Rules.{rules}
 use Rattle.dispatch_state.proofs.state_at.Goals as goal
 
 pub returns : goal.returns

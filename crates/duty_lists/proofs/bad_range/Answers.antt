@@ -1,10 +1,8 @@
 -- `bad_range` searches: the duties passed are in range, and the test says of duty i what the definition says.
-use Prim.Native.Nat.{◌-◌}
 use mathlib.Core.Path.{◌≡◌, sym, ap, ◌∙◌}
 use mathlib.Core.Bool.{not}
 use borrow.Author.Rules.{rules}
-use lib.ListN.{length}
-use Rattle.laws.proofs.Search.{Seeking, seek_none, seek_more, seek_hit, seek_miss}
+use Rattle.laws.proofs.Search.{seek_none, seek_more, seek_hit, seek_miss}
 use Rattle.paper.specs.Duties.{duty_at}
 use Rattle.paper.specs.Bytes.{duty_ranged}
 use Rattle.paper.specs.Wanted.{duties_of}

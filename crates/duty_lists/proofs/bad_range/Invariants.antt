@@ -1,12 +1,10 @@
 use Prim.Native.Nat.{◌-◌}
-use mathlib.Core.Path.{◌≡◌, sym, ap, ◌∙◌}
 use mathlib.Core.Bool.{not}
 use lib.ListN.{length}
-use Rattle.laws.proofs.Search.{Seeking, seek_none, seek_more, seek_hit, seek_miss}
+use Rattle.laws.proofs.Search.{Seeking}
 use Rattle.paper.specs.Duties.{duty_at}
 use Rattle.paper.specs.Bytes.{duty_ranged}
 use Rattle.paper.specs.Wanted.{duties_of}
-use Rattle.plan_laws.proofs.Planned.{length_duties}
 use Rattle.duty_lists.proofs.bad_range.Given as goal
 
 abbrev pub invariant-loop-i : goal.invariant-loop-i

@@ -1,10 +1,9 @@
 -- `rule_on`: a fault of form is the judge's; after a good form the rules decide.
-use mathlib.Core.Path.{◌≡◌, sym, ap, ◌∙◌}
+use mathlib.Core.Path.{sym, ap, ◌∙◌}
 use Rattle.table_form.specs.FormAs.{form_as}
 use Rattle.table_form.proofs.GoodForm.{formed}
 use Rattle.judge.proofs.Ruled.{fault_ruled}
 use Rattle.judge.proofs.Accepted.{form_refused}
-use borrow.Author.Rules.{rules}
 use Rattle.judge.proofs.rule_on.Goals as goal
 
 pub rule_on_form-requires : goal.rule_on_form-requires

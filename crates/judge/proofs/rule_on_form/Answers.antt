@@ -1,11 +1,10 @@
 -- `rule_on_form`: the rules of the duties decide, and where they are met those of the runs; the edges are those of the one table in the
 -- bytes.
-use mathlib.Core.Path.{◌≡◌, sym, ap, ◌∙◌}
+use mathlib.Core.Path.{sym, ap, ◌∙◌}
 use Rattle.paper.specs.Outcome.{judged_as}
 use Rattle.table_tally.specs.Tally.{edges_of}
 use Rattle.judge.proofs.Ruled.{fault_ruled}
 use Rattle.judge.proofs.Accepted.{duties_refused, runs_decide, table_one, accepted_as}
-use borrow.Author.Rules.{rules}
 use Rattle.judge.proofs.rule_on_form.Goals as goal
 
 pub returns-in-Bad : goal.returns-in-Bad

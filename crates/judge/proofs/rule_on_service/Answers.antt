@@ -1,7 +1,6 @@
 -- `rule_on_service`: the lists are of zeros, and as long as a table may need them.
 use Prim.Native.Nat.{◌+◌}
 use native.Mathlib.Omega.{arith}
-use borrow.Author.Rules.{rules}
 use Rattle.laws.proofs.SortedLists.{blank_zeros}
 use Rattle.paper.specs.Limits.{most_duties, most_runs}
 use Rattle.judge.proofs.rule_on_service.Goals as goal

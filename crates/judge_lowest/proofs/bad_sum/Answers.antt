@@ -1,12 +1,8 @@
 -- `bad_sum`: a search for the first duty whose runs do not add up.
-use Prim.Native.Nat.{◌-◌}
 use mathlib.Core.Path.{sym, ◌∙◌}
 use borrow.Author.Rules.{rules}
-use Rattle.laws.proofs.Search.{Seeking, seek_none, seek_more, seek_hit, seek_miss}
-use Rattle.paper.specs.Rules.{bad_sum}
-use Rattle.record_read.specs.Formed.{table_of}
+use Rattle.laws.proofs.Search.{seek_none, seek_more, seek_hit, seek_miss}
 use Rattle.record_read.proofs.Table.{table_duties}
-use Rattle.judge_lowest.specs.Breaks.{wrong_sum}
 use Rattle.judge_lowest.proofs.bad_sum.Goals as goal
 
 pub loop-i-init : goal.loop-i-init

@@ -1,9 +1,6 @@
 use Prim.Native.Nat.{◌-◌}
-use mathlib.Core.Path.{sym, ◌∙◌}
-use Rattle.laws.proofs.Search.{Seeking, seek_none, seek_more, seek_hit, seek_miss}
-use Rattle.paper.specs.Rules.{bad_sum}
+use Rattle.laws.proofs.Search.{Seeking}
 use Rattle.record_read.specs.Formed.{table_of}
-use Rattle.record_read.proofs.Table.{table_duties}
 use Rattle.judge_lowest.specs.Breaks.{wrong_sum}
 use Rattle.judge_lowest.proofs.bad_sum.Given as goal
 

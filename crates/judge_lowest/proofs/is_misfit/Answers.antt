@@ -1,5 +1,4 @@
 -- `is_misfit`: of each way not to fit, its test.
-use borrow.Author.Rules.{rules}
 use Rattle.judge_lowest.proofs.is_misfit.Goals as goal
 
 pub returns-in-Length : goal.returns-in-Length

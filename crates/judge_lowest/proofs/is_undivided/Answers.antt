@@ -1,5 +1,4 @@
 -- `is_undivided`: there is a period that T does not divide where the search for one ends before the last duty.
-use borrow.Author.Rules.{rules}
 use Rattle.record_read.proofs.Table.{table_duties}
 use Rattle.judge_lowest.proofs.is_undivided.Goals as goal
 

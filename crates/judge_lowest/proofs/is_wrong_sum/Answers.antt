@@ -1,6 +1,5 @@
 -- `is_wrong_sum` compares the units of the duty's runs with its slice.
 use native.Mathlib.Omega.{arith}
-use borrow.Author.Rules.{rules}
 use Rattle.record_read.specs.Formed.{table_of}
 use Rattle.record_read.proofs.Table.{table_ticks}
 use Rattle.table_tally.proofs.Tallied.{units_told}

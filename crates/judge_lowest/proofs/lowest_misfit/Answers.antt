@@ -1,9 +1,8 @@
 -- `lowest_misfit`: a search for the first duty that does not fit, whatever the way not to fit.
-use Prim.Native.Nat.{◌-◌}
 use mathlib.Core.Path.{◌≡◌, sym, ◌∙◌}
 use mathlib.Core.Bool.{Bool}
 use borrow.Author.Rules.{rules}
-use Rattle.laws.proofs.Search.{Seeking, seek_none, seek_more, seek_hit, seek_miss}
+use Rattle.laws.proofs.Search.{seek_none, seek_more, seek_hit, seek_miss}
 use Rattle.paper.specs.Duties.{duty_at}
 use Rattle.record_read.specs.Formed.{table_of}
 use Rattle.record_read.proofs.Table.{table_ticks, table_duties}

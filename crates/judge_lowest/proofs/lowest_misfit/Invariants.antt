@@ -1,10 +1,7 @@
 use Prim.Native.Nat.{◌-◌}
-use mathlib.Core.Path.{◌≡◌, sym, ◌∙◌}
-use mathlib.Core.Bool.{Bool}
-use Rattle.laws.proofs.Search.{Seeking, seek_none, seek_more, seek_hit, seek_miss}
+use Rattle.laws.proofs.Search.{Seeking}
 use Rattle.paper.specs.Duties.{duty_at}
 use Rattle.record_read.specs.Formed.{table_of}
-use Rattle.record_read.proofs.Table.{table_ticks, table_duties}
 use Rattle.judge_lowest.specs.Breaks.{misfit}
 use Rattle.judge_lowest.proofs.lowest_misfit.Given as goal
 

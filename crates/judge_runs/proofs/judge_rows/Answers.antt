@@ -2,7 +2,6 @@
 -- run, none at all (`right_rows`).
 use Prim.Native.Nat.{◌≤◌, ◌<◌}
 use native.Mathlib.Omega.{arith}
-use borrow.Author.Rules.{rules}
 use lib.ListN.{length}
 use Rattle.laws.specs.Search.{first}
 use Rattle.laws.proofs.Search.{beside, first_clear, compare_found}

@@ -2,7 +2,6 @@
 use mathlib.Core.Path.{◌≡◌, ◌∙◌}
 use native.Mathlib.Omega.{arith}
 use lib.ListN.{length}
-use borrow.Author.Rules.{rules}
 use Rattle.paper.specs.Words.{Table}
 use Rattle.paper.specs.Outcome.{Outcome, answer}
 use Rattle.paper.specs.Rules.{bad_sum, fault}

@@ -1,15 +1,14 @@
 -- `lowest_twice`: each run is looked at with its duty's earlier runs (`twice_beside`), and as long as none breaks the rule it is put among
 -- them (`sorted_more`).
-use Prim.Native.Nat.{◌+◌, ◌-◌, ◌<◌}
+use Prim.Native.Nat.{◌+◌, ◌<◌}
 use mathlib.Core.Path.{◌≡◌, refl, sym, ◌∙◌}
 use native.Mathlib.Omega.{arith}
 use lib.ListN.{length, length-set}
-use borrow.Author.Rules.{rules}
-use Rattle.laws.proofs.Search.{Seeking, seek_none, seek_more, seek_hit, seek_miss}
-use Rattle.laws.proofs.SortedLists.{Sorted, Recent, sorted_none, sorted_more, spot_room, recent_none, recent_more}
+use Rattle.laws.proofs.Search.{seek_none, seek_more, seek_hit, seek_miss}
+use Rattle.laws.proofs.SortedLists.{sorted_none, sorted_more, spot_room, recent_none, recent_more}
 use Rattle.record_read.specs.Formed.{table_of}
 use Rattle.record_read.proofs.Table.{table_runs}
-use Rattle.table_laws.proofs.SortedRuns.{kept, twice_at, distinct}
+use Rattle.table_laws.proofs.SortedRuns.{kept, distinct}
 use Rattle.judge_lists.proofs.Listed.{in_list, owned, rowed}
 use Rattle.judge_twice.proofs.lowest_twice.Goals as goal
 

@@ -1,11 +1,9 @@
 -- `print_numbers`: after i turns the first i numbers are written.
 use mathlib.Core.Path.{refl}
-use Prim.Native.Nat.{◌-◌}
 use borrow.Author.Rules.{rules}
 use native.Mathlib.Omega.{arith}
-use lib.ListN.{length}
 use Rattle.laws.proofs.Writing.{length-lent}
-use Rattle.laws.proofs.Listing.{Listing, listing_start, listing_at, listing_room, listing_more, listing_end}
+use Rattle.laws.proofs.Listing.{listing_start, listing_at, listing_room, listing_more, listing_end}
 use Rattle.number_print.specs.Spaced.{spaced}
 use Rattle.line_print.proofs.print_numbers.Goals as goal
 use Rattle.line_print.proofs.print_numbers.Goals.{In-loop-i}

@@ -1,8 +1,6 @@
-use mathlib.Core.Path.{refl}
 use Prim.Native.Nat.{◌-◌}
 use lib.ListN.{length}
-use Rattle.laws.proofs.Writing.{length-lent}
-use Rattle.laws.proofs.Listing.{Listing, listing_start, listing_at, listing_room, listing_more, listing_end}
+use Rattle.laws.proofs.Listing.{Listing}
 use Rattle.number_print.specs.Spaced.{spaced}
 use Rattle.line_print.proofs.print_numbers.Given as goal
 

@@ -1,5 +1,5 @@
 -- `loads_in`: a load for each run, and in each later block but for those carried over the boundary.
-use mathlib.Core.Path.{sym, ◌∙◌}
+use mathlib.Core.Path.{◌∙◌}
 use native.Mathlib.Omega.{arith}
 use borrow.Author.Tests.{eq-eqb, ne_eqb}
 use Rattle.table_tally.proofs.Linked.{ready_ends}

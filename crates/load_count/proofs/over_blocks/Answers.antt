@@ -2,7 +2,6 @@
 use Prim.Native.Nat.{◌-◌, ◌*◌, ◌≤◌}
 use native.Mathlib.Nat.{mul-le-mul}
 use native.Mathlib.Omega.{arith}
-use borrow.Author.Rules.{rules}
 use Rattle.paper.specs.Limits.{most_blocks, most_runs}
 use Rattle.load_count.proofs.over_blocks.Goals as goal
 use Rattle.load_count.proofs.over_blocks.Goals.{Start}

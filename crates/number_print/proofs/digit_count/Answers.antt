@@ -1,6 +1,6 @@
 -- `digit_count`: each division by 10 takes one digit away.
 use borrow.Author.Rules.{rules}
-use Rattle.number_print.proofs.Decimal.{Counting, counting_start, counting_more, counting_end}
+use Rattle.number_print.proofs.Decimal.{counting_start, counting_more, counting_end}
 use Rattle.number_print.proofs.digit_count.Goals as goal
 
 pub loop-left-init : goal.loop-left-init

@@ -1,4 +1,4 @@
-use Rattle.number_print.proofs.Decimal.{Counting, counting_start, counting_more, counting_end}
+use Rattle.number_print.proofs.Decimal.{Counting}
 use Rattle.number_print.proofs.digit_count.Given as goal
 
 abbrev pub invariant-loop-left : goal.invariant-loop-left

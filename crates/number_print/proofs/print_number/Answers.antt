@@ -1,9 +1,8 @@
 -- `print_number`: each turn stores the last digit of what is left, in front of those that stand.
-use mathlib.Core.Path.{◌≡◌, refl}
-use Prim.Native.Nat.{◌≤◌}
+use mathlib.Core.Path.{refl}
 use borrow.Author.Rules.{rules}
-use lib.ListN.{length, length-set}
-use Rattle.number_print.proofs.Decimal.{Storing, storing_start, storing_more, storing_end}
+use lib.ListN.{length-set}
+use Rattle.number_print.proofs.Decimal.{storing_start, storing_more, storing_end}
 use Rattle.number_print.proofs.print_number.Goals as goal
 
 pub loop-k-init : goal.loop-k-init

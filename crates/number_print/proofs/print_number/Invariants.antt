@@ -1,7 +1,7 @@
-use mathlib.Core.Path.{◌≡◌, refl}
+use mathlib.Core.Path.{◌≡◌}
 use Prim.Native.Nat.{◌≤◌}
-use lib.ListN.{length, length-set}
-use Rattle.number_print.proofs.Decimal.{Storing, storing_start, storing_more, storing_end}
+use lib.ListN.{length}
+use Rattle.number_print.proofs.Decimal.{Storing}
 use Rattle.number_print.proofs.print_number.Given as goal
 
 abbrev pub invariant-loop-k : goal.invariant-loop-k

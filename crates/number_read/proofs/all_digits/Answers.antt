@@ -1,9 +1,9 @@
 -- `all_digits`: what is left are digits exactly where all are.
 use mathlib.Core.Path.{◌≡◌, refl, sym, ◌∙◌}
 use mathlib.Core.Bool.{Bool, true, false, ◌&&◌}
-use Prim.Native.Nat.{◌≤◌, ◌+◌, ◌-◌}
+use Prim.Native.Nat.{◌+◌}
 use borrow.Author.Rules.{rules}
-use lib.ListN.{length, drop}
+use lib.ListN.{drop}
 use Rattle.paper.specs.Text.{all_digits}
 use Rattle.number_read.proofs.Numbers.{digits_step, digits_end}
 use Rattle.number_read.proofs.all_digits.Goals as goal

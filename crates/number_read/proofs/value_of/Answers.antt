@@ -1,11 +1,10 @@
 -- `value_of`: the value so far with the digits that are left is that of all; it never passes nine digits.
-use mathlib.Core.Path.{◌≡◌, refl, sym, ◌∙◌}
-use Prim.Native.Nat.{◌+◌, ◌-◌, ◌*◌, ◌^◌, ◌≤◌, ◌<◌}
+use mathlib.Core.Path.{refl, sym, ◌∙◌}
+use Prim.Native.Nat.{◌+◌, ◌-◌, ◌*◌, ◌^◌, ◌<◌}
 use borrow.Author.Rules.{rules}
-use lib.ListN.{length, get_or, drop}
+use lib.ListN.{get_or}
 use native.Mathlib.Omega.{arith}
 use Rattle.paper.specs.Limits.{most_digits}
-use Rattle.paper.specs.Text.{value_from, value}
 use Rattle.number_read.proofs.Numbers.{digit_at, number_digits, next_below, value_step, value_end}
 use Rattle.number_read.proofs.value_of.Goals as goal
 use Rattle.number_read.proofs.value_of.Goals.{In-loop-i}

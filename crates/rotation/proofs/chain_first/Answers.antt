@@ -1,12 +1,9 @@
 -- `chain_first`: the first row is the same all along the links, and a row that is not linked to the one before is its own.
-use Prim.Native.Nat.{◌≤◌}
 use mathlib.Core.Path.{◌≡◌, sym, ap, ◌∙◌}
 use native.Mathlib.Omega.{arith}
 use borrow.Author.Rules.{rules}
-use Rattle.paper.specs.Limits.{most_engines}
 use Rattle.paper.specs.Rotation.{first_of}
 use Rattle.walk_laws.proofs.Page.{first_back, first_zero, begins}
-use Rattle.row_edges.specs.Links.{link_of}
 use Rattle.rotation.proofs.chain_first.Goals as goal
 
 pub loop-r-preserved : goal.loop-r-preserved

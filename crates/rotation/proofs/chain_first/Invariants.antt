@@ -1,8 +1,7 @@
 use Prim.Native.Nat.{◌≤◌}
-use mathlib.Core.Path.{◌≡◌, sym, ap, ◌∙◌}
+use mathlib.Core.Path.{◌≡◌}
 use Rattle.paper.specs.Limits.{most_engines}
 use Rattle.paper.specs.Rotation.{first_of}
-use Rattle.walk_laws.proofs.Page.{first_back, first_zero, begins}
 use Rattle.row_edges.specs.Links.{link_of}
 use Rattle.rotation.proofs.chain_first.Given as goal
 

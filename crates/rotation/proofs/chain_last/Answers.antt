@@ -1,11 +1,7 @@
 -- `chain_last`: the first row is the same all along the links, so the row where they end is of the same chain.
-use Prim.Native.Nat.{◌-◌, ◌≤◌}
-use mathlib.Core.Path.{◌≡◌, sym, ◌∙◌}
+use mathlib.Core.Path.{sym, ◌∙◌}
 use borrow.Author.Rules.{rules}
-use Rattle.paper.specs.Limits.{most_engines}
-use Rattle.paper.specs.Rotation.{first_of}
 use Rattle.walk_laws.proofs.Page.{first_on}
-use Rattle.row_edges.specs.Links.{link_of}
 use Rattle.row_edges.proofs.Linking.{link_past}
 use Rattle.rotation.proofs.chain_last.Goals as goal
 

@@ -1,10 +1,8 @@
 use Prim.Native.Nat.{◌-◌, ◌≤◌}
-use mathlib.Core.Path.{◌≡◌, sym, ◌∙◌}
+use mathlib.Core.Path.{◌≡◌}
 use Rattle.paper.specs.Limits.{most_engines}
 use Rattle.paper.specs.Rotation.{first_of}
-use Rattle.walk_laws.proofs.Page.{first_on}
 use Rattle.row_edges.specs.Links.{link_of}
-use Rattle.row_edges.proofs.Linking.{link_past}
 use Rattle.rotation.proofs.chain_last.Given as goal
 
 abbrev pub invariant-loop-r : goal.invariant-loop-r

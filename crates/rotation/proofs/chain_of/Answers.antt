@@ -1,7 +1,6 @@
 -- `chain_of`: from the first row of the row's chain to its last.
 use native.Mathlib.Omega.{arith}
 use Rattle.walk_laws.proofs.Page.{in_chain}
-use borrow.Author.Rules.{rules}
 use Rattle.rotation.proofs.chain_of.Goals as goal
 
 pub returns : goal.returns

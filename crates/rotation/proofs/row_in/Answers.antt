@@ -1,10 +1,7 @@
 -- `row_in`: the closed form of the rotation, by the engine's chain in the block.
-use mathlib.Core.Path.{◌≡◌, sym, ap, ◌∙◌}
-use native.Mathlib.Nat.{mod-lt}
+use mathlib.Core.Path.{◌∙◌}
 use native.Mathlib.Omega.{arith}
-use Rattle.rotation.specs.Turning.{round}
 use Rattle.rotation.proofs.Turns.{places_few, row_turned}
-use borrow.Author.Rules.{rules}
 use Rattle.rotation.proofs.row_in.Goals as goal
 
 pub row_of-requires : goal.row_of-requires

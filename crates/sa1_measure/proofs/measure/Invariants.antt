@@ -1,21 +1,14 @@
-use Prim.Native.Nat.{ℕ, ◌+◌, ◌*◌, ◌-◌, ◌≤◌, ◌<◌}
-use mathlib.Core.Path.{◌≡◌, sym, ap, ◌∙◌}
+use Prim.Native.Nat.{◌+◌, ◌*◌, ◌-◌, ◌≤◌, ◌<◌}
+use mathlib.Core.Path.{◌≡◌}
 use mathlib.Core.Bool.{not}
-use borrow.Author.Tests.{eq-eqb, ne_eqb}
-use lib.Dec.{eqb}
 use lib.ListN.{length, drop}
 use Rattle.laws.specs.Lists.{sum_of}
-use Rattle.laws.proofs.Search.{Seeking, seek_none, seek_more, seek_hit, seek_miss}
+use Rattle.laws.proofs.Search.{Seeking}
 use Rattle.paper.specs.Duties.{duty_at}
-use Rattle.paper.specs.Words.{slice, whole}
+use Rattle.paper.specs.Words.{whole}
 use Rattle.paper.specs.Sa1.{slices}
 use Rattle.paper.specs.Wanted.{duties_of}
-use Rattle.plan_laws.proofs.Planned.{length_duties}
-use Rattle.slices.proofs.Shares.{whole_is}
-use Rattle.duty_lists.proofs.Duties.{share_asked, total_left, total_none}
 use Rattle.sa1_runs.specs.Laying.{laid_from, corner, units_to}
-use Rattle.sa1_runs.proofs.Laying.{units_after}
-use Rattle.sa1_measure.proofs.LaidLeft.{count_left, count_none}
 use Rattle.sa1_measure.proofs.measure.Given as goal
 
 abbrev pub invariant-loop-i : goal.invariant-loop-i

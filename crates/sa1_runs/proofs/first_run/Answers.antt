@@ -1,7 +1,6 @@
 -- `first_run`: a slice that is longer than what the row has left goes past its end.
 use mathlib.Core.Path.{sym}
 use native.Mathlib.Omega.{arith}
-use borrow.Author.Rules.{rules}
 use Rattle.sa1_runs.proofs.Laying.{first_cut, first-whole}
 use Rattle.sa1_runs.proofs.first_run.Goals as goal
 

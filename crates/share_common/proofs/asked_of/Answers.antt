@@ -3,7 +3,6 @@ use mathlib.Core.Path.{refl}
 use Prim.Native.Nat.{ℕ, ◌*◌, ◌/◌, ◌≤◌}
 use native.Mathlib.Nat.{mul-le-mul_right, mul-div-le, div-le_self}
 use native.Mathlib.Omega.{arith}
-use borrow.Author.Rules.{rules}
 use Rattle.share_common.proofs.asked_of.Goals as goal
 use Rattle.share_common.proofs.asked_of.Goals.{After-struct_known-2-1}
 

@@ -2,7 +2,6 @@
 use Prim.Native.Nat.{◌<◌}
 use mathlib.Core.Path.{sym}
 use native.Mathlib.Omega.{arith}
-use borrow.Author.Rules.{rules}
 use Rattle.share_common.proofs.Counting.{positive, too_many, too_much, counted}
 use Rattle.share_common.proofs.block_count.Goals as goal
 

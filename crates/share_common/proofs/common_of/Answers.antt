@@ -1,12 +1,12 @@
 -- `common_of`: the multiple so far, with that of the periods that are left, is that of them all. It divides that one, so once it is too
 -- much that one is.
-use Prim.Native.Nat.{◌+◌, ◌*◌, ◌-◌, ◌≤◌, ◌<◌, ◌∣◌}
+use Prim.Native.Nat.{◌+◌, ◌*◌, ◌<◌, ◌∣◌}
 use mathlib.Core.Path.{◌≡◌, sym, ◌∙◌}
 use native.Mathlib.Nat.{le_of_dvd, pos_of_dvd_of_pos}
 use native.Mathlib.Omega.{arith}
 use borrow.Author.Rules.{rules}
 use borrow.Author.Tests.{lt-ltb, le-ltb}
-use lib.ListN.{length, drop}
+use lib.ListN.{drop}
 use Rattle.laws.specs.Divisor.{lcm, lcm_of}
 use Rattle.laws.proofs.Multiple.{lcm_left, lcm_of_positive, lcm-start, lcm_further, lcm-finished}
 use Rattle.paper.specs.Limits.{most_share_blocks}

@@ -1,10 +1,7 @@
-use Prim.Native.Nat.{◌+◌, ◌*◌, ◌-◌, ◌≤◌, ◌<◌, ◌∣◌}
-use mathlib.Core.Path.{◌≡◌, sym, ◌∙◌}
-use native.Mathlib.Nat.{le_of_dvd, pos_of_dvd_of_pos}
-use borrow.Author.Tests.{lt-ltb, le-ltb}
+use Prim.Native.Nat.{◌*◌, ◌-◌, ◌≤◌, ◌<◌}
+use mathlib.Core.Path.{◌≡◌}
 use lib.ListN.{length, drop}
 use Rattle.laws.specs.Divisor.{lcm, lcm_of}
-use Rattle.laws.proofs.Multiple.{lcm_left, lcm_of_positive, lcm-start, lcm_further, lcm-finished}
 use Rattle.paper.specs.Limits.{most_share_blocks}
 use Rattle.share_common.proofs.common_of.Given as goal
 

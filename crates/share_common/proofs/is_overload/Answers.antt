@@ -1,7 +1,6 @@
 -- `is_overload`: what the duties ask for is added up; none asks for more than the ticks, so the sum of few of them fits 64 bits.
 use Prim.Native.Nat.{ℕ, ◌*◌, ◌-◌, ◌^◌, ◌≤◌}
 use mathlib.Core.Path.{◌≡◌, sym, ap, ◌∙◌}
-use mathlib.Core.List.{List}
 use native.Mathlib.Nat.{mul-le-mul}
 use native.Mathlib.Omega.{arith}
 use borrow.Author.Rules.{rules}
@@ -9,8 +8,7 @@ use lib.Dec.{ltb}
 use lib.ListN.{length}
 use Rattle.laws.specs.Sum.{sum_to}
 use Rattle.laws.proofs.Sum.{sum_none, sum_more}
-use Rattle.paper.specs.declared.Duty.{Duty}
-use Rattle.paper.specs.Duties.{duty_at, asks}
+use Rattle.paper.specs.Duties.{asks}
 use Rattle.paper.specs.Limits.{most_engines}
 use Rattle.paper.specs.Wanted.{duties_of}
 use Rattle.plan_laws.proofs.Planned.{length_duties}

@@ -1,16 +1,11 @@
 use Prim.Native.Nat.{ℕ, ◌*◌, ◌-◌, ◌^◌, ◌≤◌}
-use mathlib.Core.Path.{◌≡◌, sym, ap, ◌∙◌}
+use mathlib.Core.Path.{◌≡◌}
 use mathlib.Core.List.{List}
-use native.Mathlib.Nat.{mul-le-mul}
-use lib.Dec.{ltb}
 use lib.ListN.{length}
 use Rattle.laws.specs.Sum.{sum_to}
-use Rattle.laws.proofs.Sum.{sum_none, sum_more}
 use Rattle.paper.specs.declared.Duty.{Duty}
 use Rattle.paper.specs.Duties.{duty_at, asks}
-use Rattle.paper.specs.Limits.{most_engines}
 use Rattle.paper.specs.Wanted.{duties_of}
-use Rattle.plan_laws.proofs.Planned.{length_duties}
 use Rattle.share_common.proofs.is_overload.Given as goal
 
 -- what each duty asks for

@@ -3,7 +3,6 @@ use Prim.Native.Nat.{◌-◌, ◌/◌, ◌^◌, ◌≤◌}
 use mathlib.Core.Path.{sym}
 use native.Mathlib.Nat.{mul-le-mul, div-le_self, pos_of_dvd_of_pos}
 use native.Mathlib.Omega.{arith}
-use borrow.Author.Rules.{rules}
 use Rattle.laws.proofs.Divisor.{gcd_left}
 use Rattle.laws.proofs.Multiple.{lcm_is}
 use Rattle.share_common.proofs.multiple_of.Goals as goal

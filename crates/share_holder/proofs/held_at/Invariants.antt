@@ -1,11 +1,7 @@
-use Prim.Native.Nat.{ℕ, suc, ◌+◌, ◌-◌, ◌≤◌, ◌<◌}
-use mathlib.Core.Path.{◌≡◌, sym, ◌∙◌}
-use mathlib.Core.List.{List}
-use native.Mathlib.Numerals.{add-one}
-use lib.ListN.{length, get_or, drop}
-use lib.Seq.{drop-cons}
-use Rattle.paper.specs.declared.Held.TheVariants.{By}
-use Rattle.plan_laws.proofs.Line.{on_line, first_has, first_not, none_has}
+use Prim.Native.Nat.{◌-◌, ◌≤◌}
+use mathlib.Core.Path.{◌≡◌}
+use lib.ListN.{length, drop}
+use Rattle.plan_laws.proofs.Line.{on_line}
 use Rattle.share_holder.proofs.held_at.Given as goal
 
 abbrev pub invariant-loop-i : goal.invariant-loop-i

@@ -1,6 +1,5 @@
 -- `wants_more`: the two tests of step 2.
 use mathlib.Core.Path.{refl}
-use borrow.Author.Rules.{rules}
 use Rattle.share_turn.proofs.wants_more.Goals as goal
 
 pub returns : goal.returns
