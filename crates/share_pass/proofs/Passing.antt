@@ -2,8 +2,8 @@
 -- if it were laid over the list as it was lent: what the last block gave is all that is left of them.
 -- Assumes nothing.
 use Prim.Native.Nat.{ℕ, ◌+◌, ◌≤◌, ◌<◌}
-use mathlib.Core.Path.{◌≡◌, sym, ◌∙◌}
-use mathlib.Core.Bool.{false}
+use mathlib.Core.Path.{◌≡◌, refl, sym, ◌∙◌}
+use mathlib.Core.Bool.{true, false}
 use mathlib.Core.List.{List}
 use native.Mathlib.Omega.{arith}
 use lib.ListN.{length}
@@ -26,6 +26,19 @@ pub record Passing (s : Sharing) (from to : ℕ) (before : List ℕ) (b total : 
   pub alike : (l : List ℕ) → length l ≡ duty_count s → over l units ≡ over l before
   pub last : (k : ℕ) → k + 1 ≡ b → from ≤ k → units ≡ over (allotments s k) before
 
+pub passing_none :
+    (s : Sharing) (from to total : ℕ) (whole part units : List ℕ) → from ≤ to → Paced s from whole part total
+    → Passing s from to units from total whole part units
+passing_none s from to total whole part units h p =
+    record {
+      least = omega arith;
+      most = h;
+      clear = λ k x y. absurd (omega arith);
+      paced = p;
+      alike = λ l e. refl;
+      last = λ k x y. absurd (omega arith);
+    }
+
 module _ {s : Sharing} {from to b total : ℕ} {before whole part units : List ℕ} where
   -- one block more that does not come short
   pub passing_more :
@@ -40,6 +53,33 @@ module _ {s : Sharing} {from to b total : ℕ} {before whole part units : List �
         paced = p;
         alike = λ l n. rw e (over_again l (allotments s b) units (n ∙ sym (allotments-length s b)) ∙ g.alike l n);
         last = λ k x y. let q : k ≡ b = omega arith in rw q (e ∙ g.alike (allotments s b) (allotments-length s b));
+      }
+
+  -- the pass ends at a block that comes short, ..
+  pub passing_short :
+      (whole' part' units' : List ℕ) → Passing s from to before b total whole part units → b < to → short_at s b ≡ true
+      → Passed s from to before b total whole' part' units'
+  passing_short whole' part' units' g h f =
+      record {
+        least = g.least;
+        most = g.most;
+        clear = g.clear;
+        stopped = λ x. f;
+        paced = λ x. absurd (omega arith);
+        last = λ x. absurd (omega arith);
+      }
+
+  -- .. or after the last one
+  pub passing_end : Passing s from to before b total whole part units → to ≤ b → Passed s from to before to total whole part units
+  passing_end g h =
+      let e : b ≡ to = omega (arith, g.most) in
+      record {
+        least = omega (arith, g.least);
+        most = omega arith;
+        clear = λ k x y. g.clear k x (omega arith);
+        stopped = λ x. absurd (omega arith);
+        paced = λ x. rw (← e) g.paced;
+        last = λ x k y z. g.last k (omega arith) z;
       }
 
 -- ---- what a pass has told

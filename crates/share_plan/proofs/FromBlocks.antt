@@ -4,6 +4,7 @@
 use Prim.Native.Nat.{ℕ, ◌+◌, ◌*◌, ◌/◌, ◌%◌, ◌≤◌, ◌<◌}
 use mathlib.Core.Path.{◌≡◌, sym, ap, ◌∙◌}
 use mathlib.Core.List.{List}
+use native.Mathlib.Nat.{mul-le-mul}
 use native.Mathlib.Omega.{arith}
 use lib.ListN.{length, take}
 use borrow.Author.Tests.{lt-ltb, le-ltb}
@@ -15,8 +16,10 @@ use Rattle.paper.specs.declared.Duty.{Duty}
 use Rattle.paper.specs.declared.Engine.{Engine}
 use Rattle.paper.specs.declared.Refusal.{Refusal}
 use Rattle.paper.specs.declared.ShareReading.{ShareReading}
+use Rattle.paper.specs.declared.SharesTold.{SharesTold}
 use Rattle.paper.specs.declared.SharesTold.TheVariants.{Given, Refused as NotGiven}
 use Rattle.paper.specs.Outcome.{Outcome, refused, answer, refused_as}
+use Rattle.paper.specs.Limits.{most_duties, most_share_blocks}
 use Rattle.paper.specs.Sa2.{Sharing, duty_count, allotments}
 use Rattle.paper.specs.Shares.{blocks, failing, entries_needed, steady, share_list, reading_of_shares, GivesShares}
 use Rattle.plan_laws.proofs.Line.{on_line}
@@ -40,6 +43,12 @@ pub gives_list :
     → after ≡ over (share_list s) before → GivesShares o (Given rd) before after
 gives_list o s rd before after e f g = record { said = rw (e, f); left = rw (e, g) }
 
+-- the same outcome is given the same
+pub gives_same :
+    {o o' : Outcome Sharing} {r : SharesTold} {before after : List ℕ} → o ≡ o' → GivesShares o' r before after
+    → GivesShares o r before after
+gives_same e g = rw e g
+
 module _ {t m : ℕ} {ss ps : List ℕ} {n : ℕ} (k : KnownBlocks t m ss ps n) where
   abbrev s : Sharing
   s = sharing_by t m ss ps
@@ -60,6 +69,10 @@ module _ {t m : ℕ} {ss ps : List ℕ} {n : ℕ} (k : KnownBlocks t m ss ps n) 
             let h : i < length ss = rw (← count_is) l in
             rw (ap (λ (x : Duty). x.period) (duty_is ss ps i h)) (k.divides i (omega (arith, k.sliceable.paired.same)));
       }
+
+  -- there are few of them
+  pub needed_most : n * length ss ≤ most_share_blocks * most_duties
+  needed_most = mul-le-mul k.few k.sliceable.paired.few
 
   -- the list is that of the blocks
   pub list_is : allotted s n ≡ share_list s

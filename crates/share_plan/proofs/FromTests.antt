@@ -11,19 +11,25 @@ use borrow.Author.Tests.{ltb-false}
 use Rattle.laws.specs.Divisor.{gcd_of}
 use Rattle.laws.proofs.Cases.{by_cases}
 use Rattle.laws.proofs.Divisor.{gcd_of-divides}
-use Rattle.paper.specs.Outcome.{refused, answer}
-use Rattle.paper.specs.Wanted.{Wanted, duty_set}
+use Rattle.paper.specs.declared.Engine.{Engine}
+use Rattle.paper.specs.declared.Refusal.{Refusal}
+use Rattle.paper.specs.declared.Verdict.{Verdict}
+use Rattle.paper.specs.declared.Verdict.TheVariants.{Refused as NotDone}
+use Rattle.paper.specs.Outcome.{refused, answer, refused_as, verdict_as}
+use Rattle.paper.specs.Wanted.{Wanted, duty_set, taken}
 use Rattle.paper.specs.Sa2.{Sharing, sharing}
 use Rattle.paper.specs.Limits.{most_share_blocks}
-use Rattle.paper.specs.Shares.{blocks, overloaded, sharable, shared}
+use Rattle.paper.specs.Shares.{blocks, overloaded, sharable, shared, share_plan, share_question}
 use Rattle.paper.proofs.Outcomes.{answered, answer_one, then_refused}
 use Rattle.plan_laws.proofs.TakenWhen.{Taken, takes}
 use Rattle.duty_lists.proofs.AfterTests.{block_is, sliceable}
 use Rattle.share_laws.proofs.Blocks.{sharing_of, blocks_some, taken_some, taken_in_blocks}
 use Rattle.share_common.specs.Common.{Divided, blocks_of}
 use Rattle.share_block.specs.Paced.{sharing_by}
-use Rattle.share_plan.specs.declared.Measured.TheVariants.{Known}
-use Rattle.share_plan.specs.AfterCount.{KnownBlocks, Measures}
+use Rattle.share_plan.specs.declared.Measure.{Measure}
+use Rattle.share_plan.specs.declared.Measured.{Measured}
+use Rattle.share_plan.specs.declared.Measured.TheVariants.{Known, Refused}
+use Rattle.share_plan.specs.AfterCount.{KnownBlocks, Measures, list_from, held_from}
 
 -- the block length divides the periods
 pub divided : (ps : List ℕ) → Divided (gcd_of ps) ps
@@ -42,6 +48,10 @@ blocks-told s n =
     (refl, sym z, omega (arith, z, ltb-false most_share_blocks (blocks s) p)))))
 
 module _ (x : Wanted) where
+  -- what the tests refuse is not shared out
+  pub not_taken : (v : Verdict) → verdict_as v (duty_set x) ≡ taken x → (why : Refusal) → v ≡ NotDone why → shared x ≡ refused_as why
+  not_taken v h why e = rw (← h, e)
+
   module _ (c : Taken x) where
     abbrev s : Sharing
     s = sharing_by (gcd_of x.periods) x.engines x.services x.periods
@@ -77,3 +87,31 @@ module _ (x : Wanted) where
           few = z.2;
         } in
         (known, shared_is ∙ z.0)
+
+  -- ---- both calls, by what was measured
+
+  module _ {r : Measured} (m : Measures x r) where
+    measured_none : (why : Refusal) → r ≡ Refused why → shared x ≡ refused_as why
+    measured_none why e = rw e at m
+
+    measured_some : (k : Measure) → r ≡ Known k → Measures x (Known k)
+    measured_some k e = rw e at m
+
+    pub known_blocks : (k : Measure) → r ≡ Known k → KnownBlocks k.ticks x.engines x.services x.periods k.blocks
+    known_blocks k e = (measured_some k e).0
+
+    pub none_listed : (why : Refusal) → r ≡ Refused why → (room : ℕ) → share_plan x room ≡ refused_as why
+    none_listed why e room = rw (measured_none why e)
+
+    pub none_asked : (why : Refusal) → r ≡ Refused why → (q : Engine) (k : ℕ) → share_question x q k ≡ refused_as why
+    none_asked why e q k = rw (measured_none why e)
+
+    pub listed_from :
+        (k : Measure) → r ≡ Known k → (room : ℕ)
+        → share_plan x room ≡ list_from room (sharing_by k.ticks x.engines x.services x.periods)
+    listed_from k e room = rw (measured_some k e).1
+
+    pub asked_from :
+        (k : Measure) → r ≡ Known k → (q : Engine) (tick : ℕ)
+        → share_question x q tick ≡ held_from q tick (sharing_by k.ticks x.engines x.services x.periods)
+    asked_from k e q tick = rw (measured_some k e).1

@@ -8,7 +8,7 @@ use mathlib.Core.List.{List}
 use native.Mathlib.Omega.{arith}
 use Rattle.laws.proofs.Search.{Clear, first_is}
 use Rattle.paper.specs.Sa2.{Sharing}
-use Rattle.share_block.specs.Paced.{short_at}
+use Rattle.share_block.specs.Paced.{Paced, short_at}
 use Rattle.share_pass.specs.Passing.{Passed, CutsKept}
 use Rattle.share_pass.proofs.Passing.{passed_clear, passed_first}
 use Rattle.share_pass.proofs.Keeping.{kept_to, kept_both}
@@ -43,3 +43,9 @@ module _ {s : Sharing} {blocks keep : ℕ} {before : List ℕ} where
         kept = λ e. p.last end keep (omega arith) (omega arith);
         cut = λ e. kept_both (kept_to k end) (kept_to g e);
       }
+
+-- and the needs stand before the next block
+pub look_further :
+    {s : Sharing} {keep a total : ℕ} {before whole part units : List ℕ} → Passed s 0 (keep + 1) before a total whole part units → keep < a
+    → Paced s (keep + 1) whole part total
+look_further {s} {keep} {a} p l = p.paced (omega (arith, p.most))
