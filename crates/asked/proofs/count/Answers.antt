@@ -1,6 +1,5 @@
 -- `count`: judged first; then the loads of the table in the bytes.
 use Rattle.judge.proofs.Asked.{ready_read, asked_accepted, asked_refused}
-use borrow.Author.Rules.{rules}
 use Rattle.asked.proofs.count.Goals as goal
 
 pub count_in-requires : goal.count_in-requires

@@ -1,6 +1,5 @@
 -- `question`: judged first; then the reply of the table in the bytes.
 use Rattle.judge.proofs.Asked.{ready_read, asked_accepted, asked_refused}
-use borrow.Author.Rules.{rules}
 use Rattle.asked.proofs.question.Goals as goal
 
 pub reply_at-requires : goal.reply_at-requires

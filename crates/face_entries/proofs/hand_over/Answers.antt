@@ -1,6 +1,5 @@
 -- `hand_over`: a refusal as a word; else 0, and the state's entries over the front.
 use mathlib.Core.Path.{refl}
-use borrow.Author.Rules.{rules}
 use Rattle.face_entries.proofs.hand_over.Goals as goal
 
 pub word_of-requires : goal.word_of-requires

@@ -1,15 +1,14 @@
 -- `put_state`: after e turns the block and all of the rows but those from e on are laid over the state.
 use mathlib.Core.Path.{◌≡◌, refl, ◌∙◌}
-use Prim.Native.Nat.{ℕ, ◌+◌, ◌-◌, ◌≤◌, ◌<◌}
+use Prim.Native.Nat.{ℕ, ◌+◌, ◌≤◌, ◌<◌}
 use native.Mathlib.Numerals.{add-one}
 use native.Mathlib.Omega.{arith}
 use borrow.Author.Rules.{rules}
 use mathlib.Core.List.{List, [], ◌∷◌}
 use lib.ListN.{length, drop, get_or, length-set, length-map, drop_of_length-le, get_or-map}
 use lib.Seq.{drop-cons}
-use Rattle.laws.proofs.Writing.{Wrote, stored, done, next}
+use Rattle.laws.proofs.Writing.{stored, done, next}
 use Rattle.paper.specs.declared.Row.{Row}
-use Rattle.paper.specs.Limits.{most_engines, state_room}
 use Rattle.paper.specs.Words.{row, row_numbers}
 use Rattle.face_entries.proofs.Opened.{opened, opened-over}
 use Rattle.face_entries.proofs.put_state.Goals as goal

@@ -1,14 +1,10 @@
-use mathlib.Core.Path.{◌≡◌, refl, ◌∙◌}
-use Prim.Native.Nat.{ℕ, ◌+◌, ◌-◌, ◌≤◌, ◌<◌}
-use native.Mathlib.Numerals.{add-one}
-use mathlib.Core.List.{List, [], ◌∷◌}
-use lib.ListN.{length, drop, get_or, length-set, length-map, drop_of_length-le, get_or-map}
-use lib.Seq.{drop-cons}
-use Rattle.laws.proofs.Writing.{Wrote, stored, done, next}
-use Rattle.paper.specs.declared.Row.{Row}
+use mathlib.Core.Path.{◌≡◌}
+use Prim.Native.Nat.{◌+◌, ◌-◌, ◌≤◌}
+use mathlib.Core.List.{◌∷◌}
+use lib.ListN.{length, drop, get_or}
+use Rattle.laws.proofs.Writing.{Wrote}
 use Rattle.paper.specs.Limits.{most_engines, state_room}
-use Rattle.paper.specs.Words.{row, row_numbers}
-use Rattle.face_entries.proofs.Opened.{opened, opened-over}
+use Rattle.paper.specs.Words.{row_numbers}
 use Rattle.face_entries.proofs.put_state.Given as goal
 
 abbrev pub invariant-loop-e : goal.invariant-loop-e

@@ -1,14 +1,13 @@
 -- `state_in`: the rows are filled from the front, each with an entry of the list; the block is its first.
 use mathlib.Core.Path.{◌≡◌, refl, sym, ap, ◌∙◌}
 use mathlib.Core.List.{List, map}
-use Prim.Native.Nat.{ℕ, ◌-◌, ◌≤◌}
+use Prim.Native.Nat.{ℕ}
 use native.Mathlib.Omega.{arith}
 use Rattle.laws.specs.Lists.{tab}
-use Rattle.laws.proofs.Lists.{map-set, map_back, map-tab, Filled, filled_more, filled_all, filled_none}
+use Rattle.laws.proofs.Lists.{map-set, map_back, map-tab, filled_more, filled_all, filled_none}
 use Rattle.paper.specs.declared.Row.{Row}
 use Rattle.paper.specs.Limits.{most_engines}
 use Rattle.paper.specs.Words.{row, row_numbers}
-use Rattle.face_entries.specs.Cut.{cut_row}
 use Rattle.face_entries.proofs.state_in.Goals as goal
 
 -- rows by their numbers

@@ -2,7 +2,6 @@
 use Rattle.paper.proofs.Calls.{hands_same}
 use Rattle.judge.proofs.Asked.{ready_engines, asked_links, asked_refused}
 use Rattle.paper.specs.Answers.{next_by}
-use borrow.Author.Rules.{rules}
 use Rattle.asked.proofs.Dispatcher.next.Goals as goal
 
 pub advance-requires : goal.advance-requires

@@ -2,7 +2,6 @@
 use mathlib.Core.Path.{◌∙◌}
 use Rattle.judge.proofs.Asked.{ready_engines, asked_links, asked_refused}
 use Rattle.paper.specs.Answers.{row_by}
-use borrow.Author.Rules.{rules}
 use Rattle.asked.proofs.Dispatcher.row.Goals as goal
 
 pub tell-requires : goal.tell-requires

@@ -3,7 +3,6 @@ use Rattle.paper.proofs.Calls.{hands_same}
 use Rattle.judge.proofs.Asked.{ready_engines, asked_links, asked_refused}
 use Rattle.paper.specs.Outcome.{answer}
 use Rattle.paper.specs.Answers.{state_at}
-use borrow.Author.Rules.{rules}
 use Rattle.asked.proofs.Dispatcher.start.Goals as goal
 
 pub state_at-requires : goal.state_at-requires
