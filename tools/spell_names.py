@@ -5,7 +5,7 @@ usage: python3 tools/spell_names.py [--dry]     at the top of the repository
 
 Words are in snake case: `headLength` becomes `head_length`. In the name of a lemma a dash stays only where it joins two names, as in
 `digits-num_at`; a plain word is joined by `_`, as in `first_cut`. Names of the kit, of types and of modules, and what src/ declares, keep
-their spelling. A name that would fall together with another is told, and is told; a lemma then ends in _lem.
+their spelling. A name that would fall together with another is told; a lemma then ends in _lem.
 """
 import glob
 import os

@@ -56,8 +56,10 @@ by_hand =
 
 -- it is accepted
 pub by_hand-accepted : accepted (bytes_of by_hand) ≡ answer by_hand
-unfolding by_hand accepted parse after_head after_runs table_in stands duty_in run_in num_at tab encode head_bytes duty_bytes run_bytes end_bytes flat
-    digits judge_table judge_duties judge_runs overlaps joins twice meet before unordered units_of whole slice block_length_of gcd_of gcd euclid
+unfolding by_hand accepted parse after_head after_runs table_in stands duty_in run_in num_at tab encode head_bytes duty_bytes run_bytes
+    end_bytes flat
+    digits judge_table judge_duties judge_runs overlaps joins twice meet before unordered units_of whole slice block_length_of gcd_of gcd
+    euclid
     first
 by_hand-accepted = refl
 
@@ -74,7 +76,8 @@ sa1_own x t m ds e = rw e
 -- so the builder never plans it
 pub by_hand_unplanned : (wish : ℕ) (x : Wanted) → plan wish x ≡ answer by_hand → ⊥
 unfolding by_hand
-by_hand_unplanned wish x h = by_hand_own (sa1_own by_hand (length_meant wish (duty_set x)) x.engines (duty_set x) (plan-sa1 wish x by_hand h))
+by_hand_unplanned wish x h =
+    by_hand_own (sa1_own by_hand (length_meant wish (duty_set x)) x.engines (duty_set x) (plan-sa1 wish x by_hand h))
 
 -- its bytes are bytes, and it meets the rules
 pub by_hand_bytes : AreBytes (bytes_of by_hand)
@@ -116,7 +119,8 @@ by_hand_short =
 
 -- it is accepted
 pub by_hand_short-accepted : accepted (bytes_of by_hand_short) ≡ answer by_hand_short
-unfolding by_hand_short accepted parse after_head after_runs table_in stands duty_in run_in num_at tab encode head_bytes duty_bytes run_bytes end_bytes
+unfolding by_hand_short accepted parse after_head after_runs table_in stands duty_in run_in num_at tab encode head_bytes duty_bytes
+    run_bytes end_bytes
     flat digits judge_table judge_duties judge_runs overlaps joins twice meet before unordered units_of whole slice first
 by_hand_short-accepted = refl
 
@@ -143,7 +147,8 @@ by_hand_short-other = (refl, refl)
 pub built-p2 : (build 0 (wanted 1 (1 ∷ []) (1 ∷ [])) 30 ≡ answer
     (1 ∷ 1 ∷ 0 ∷ 0 ∷ 0 ∷ 1 ∷ 1 ∷ 2 ∷ 1 ∷ 0 ∷ 0 ∷ 0 ∷ 1 ∷ 0 ∷ 0 ∷ 0 ∷ 3 ∷ 0 ∷ 0 ∷ 0 ∷ 0 ∷ 0 ∷ 0 ∷ 1 ∷ 0 ∷ 0 ∷ 0 ∷ 4 ∷ 1 ∷ 0 ∷ []))
     × (build 0 (wanted 1 (1 ∷ []) (1 ∷ [])) 29 ≡ refused 8 30)
-unfolding plan taken in_range plan_at sa1 lay lay_one row_after unit_after slice whole block_length_of gcd_of gcd euclid duties_of tab sum_of first
+unfolding plan taken in_range plan_at sa1 lay lay_one row_after unit_after slice whole block_length_of gcd_of gcd euclid duties_of tab
+    sum_of first
     encode head_bytes duty_bytes run_bytes end_bytes flat digits
 built-p2 = (refl, refl)
 
@@ -161,7 +166,8 @@ table3-served q = share_jobs_served (wanted_in table3) 36 (sharing_in table3) ta
 
 -- three duties of 2 ticks in every 3 have a plan on two engines, and on one get 7: so they need two, whoever schedules them
 pub three_need_two : FewestEngines 2 (duties_of (2 ∷ 2 ∷ 2 ∷ []) (3 ∷ 3 ∷ 3 ∷ []))
-unfolding plan taken in_range plan_at sa1 lay lay_one row_after unit_after slice whole block_length_of gcd_of gcd euclid duties_of tab sum_of first
+unfolding plan taken in_range plan_at sa1 lay lay_one row_after unit_after slice whole block_length_of gcd_of gcd euclid duties_of tab
+    sum_of first
 three_need_two = one_engine_fewer 1 (2 ∷ 2 ∷ 2 ∷ []) (3 ∷ 3 ∷ 3 ∷ []) (7-of-tables 0 0 0 refl) (plan_of_tables 0 _ refl)
 
 -- and 004's table 3 needs its three, since as a plan of shares it gets 7 on two

@@ -167,7 +167,8 @@ told_one t t' = (t.said ∙ sym t'.said, t.left ∙ sym t'.left)
 
 pub built_one :
     (o : Outcome (List ℕ)) (table : List ℕ) {lent : List ℕ} {word word' : ℕ} {left left' bytes bytes' : List ℕ}
-    → Tells (build_entries o) word lent left × (bytes ≡ leaves o table) → Tells (build_entries o) word' lent left' × (bytes' ≡ leaves o table)
+    → Tells (build_entries o) word lent left × (bytes ≡ leaves o table) → Tells (build_entries o) word' lent left'
+    × (bytes' ≡ leaves o table)
     → (word ≡ word') × (left ≡ left') × (bytes ≡ bytes')
 built_one o table t t' = let z = told_one t.0 t'.0 in (z.0, z.1, t.1 ∙ sym t'.1)
 

@@ -50,7 +50,8 @@ number_count [] = refl
 number_count (r ∷ rs) = ap suc (number_count rs)
 
 -- two lists that differ at an index are not the same; two of one length that agree at every index are
-pub same_not : (a b : List Row) (k : ℕ) → ((get_or a k (row 0)).0 ≡ (get_or b k (row 0)).0 → ⊥) → same_list (row_numbers a) (row_numbers b) ≡ false
+pub same_not : (a b : List Row) (k : ℕ) → ((get_or a k (row 0)).0 ≡ (get_or b k (row 0)).0 → ⊥)
+    → same_list (row_numbers a) (row_numbers b) ≡ false
 same_not a b k h = same_list_differ (row_numbers a) (row_numbers b) k (λ e. h (sym (number_at a k) ∙ e ∙ number_at b k))
 
 pub same_all : (a b : List Row) → length a ≡ most_engines → length b ≡ most_engines

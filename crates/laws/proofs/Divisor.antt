@@ -106,7 +106,7 @@ gcd_of_greatest (x ∷ xs) d h = gcd_greatest x (gcd_of xs) d (h 0 (omega arith)
 pub gcd_of-common : (xs : List ℕ) (d : ℕ) → (d ∣ gcd_of xs) ↔ ((k : ℕ) → k < length xs → d ∣ get_or xs k 0)
 gcd_of-common xs d = ((λ h k l. dvd_trans d h (gcd_of-divides xs k l)), gcd_of_greatest xs d)
 
--- a loop that goes through a list from its front keeps gcd g (gcdOf of what is left)
+-- a loop that goes through a list from its front keeps gcd g (gcd_of of what is left)
 pub gcd_through : (g x : ℕ) (xs : List ℕ) → gcd g (gcd_of (x ∷ xs)) ≡ gcd (gcd g x) (gcd_of xs)
 unfolding gcd_of
 gcd_through g x xs = sym (gcd_assoc g x (gcd_of xs))
@@ -115,7 +115,8 @@ pub gcd-start : (b : ℕ) → gcd 0 b ≡ b
 gcd-start b = gcd_comm 0 b ∙ gcd-zero b
 
 -- the same by what is left of the list at index i, and at its end
-pub gcd_further : (g i : ℕ) (xs : List ℕ) → i < length xs → gcd (gcd g (get_or xs i 0)) (gcd_of (drop (i + 1) xs)) ≡ gcd g (gcd_of (drop i xs))
+pub gcd_further : (g i : ℕ) (xs : List ℕ) → i < length xs → gcd (gcd g (get_or xs i 0)) (gcd_of (drop (i + 1) xs))
+    ≡ gcd g (gcd_of (drop i xs))
 gcd_further g i xs h = rw (add-one, drop-cons xs i 0) (sym (gcd_through g (get_or xs i 0) (drop (suc i) xs)))
 
 pub gcd-finished : (g i : ℕ) (xs : List ℕ) → length xs ≤ i → gcd g (gcd_of (drop i xs)) ≡ g

@@ -114,11 +114,12 @@ unfolding lcm_of
 lcm_of_positive [] h = omega arith
 lcm_of_positive (x ∷ xs) h = lcm_positive x (lcm_of xs) (h 0 (omega arith)) (lcm_of_positive xs (λ k l. h (suc k) (omega arith)))
 
--- a loop that goes through a list from its front keeps lcm m (lcmOf of what is left)
+-- a loop that goes through a list from its front keeps lcm m (lcm_of of what is left)
 pub lcm-start : (b : ℕ) → lcm 1 b ≡ b
 lcm-start b = dvd_antisymm (lcm_least 1 b b (one-dvd b) (dvd_refl b)) (lcm_right 1 b)
 
-pub lcm_further : (m i : ℕ) (xs : List ℕ) → i < length xs → lcm (lcm m (get_or xs i 0)) (lcm_of (drop (i + 1) xs)) ≡ lcm m (lcm_of (drop i xs))
+pub lcm_further : (m i : ℕ) (xs : List ℕ) → i < length xs → lcm (lcm m (get_or xs i 0)) (lcm_of (drop (i + 1) xs))
+    ≡ lcm m (lcm_of (drop i xs))
 unfolding lcm_of
 lcm_further m i xs h = rw (add-one, drop-cons xs i 0) (lcm_assoc m (get_or xs i 0) (lcm_of (drop (suc i) xs)))
 

@@ -61,12 +61,14 @@ t9 = table_for p9 4 (run 0 0 0 3 ∷ run 0 1 3 1 ∷ run 1 1 0 2 ∷ run 1 2 2 2
 -- the builder makes them ..
 made : (outcome p1 ≡ answer t1) × (outcome p2 ≡ answer t2) × (outcome p3 ≡ answer t3) × (outcome p6 ≡ answer t6)
     × (outcome p7 ≡ answer t7) × (outcome p8 ≡ answer t8) × (outcome p9 ≡ answer t9)
-unfolding plan taken in_range plan_at sa1 lay lay_one row_after unit_after slice whole block_length_of gcd_of gcd euclid duties_of tab sum_of first
+unfolding plan taken in_range plan_at sa1 lay lay_one row_after unit_after slice whole block_length_of gcd_of gcd euclid duties_of tab
+    sum_of first
 made = (refl, refl, refl, refl, refl, refl, refl)
 
 -- .. and refuses the others
 not_made : (outcome p4 ≡ refused 7 0) × (outcome p5 ≡ refused 6 0) × (outcome p10 ≡ refused 5 0)
-unfolding plan taken in_range plan_at sa1 lay lay_one row_after unit_after slice whole block_length_of gcd_of gcd euclid duties_of tab sum_of first
+unfolding plan taken in_range plan_at sa1 lay lay_one row_after unit_after slice whole block_length_of gcd_of gcd euclid duties_of tab
+    sum_of first
 not_made = (refl, refl, refl)
 
 -- ---- their loads
@@ -110,7 +112,8 @@ planned wish c t e h = rw e h
 
 -- P1's printed plan, byte by byte
 printed1 : Says (answer t1) (prints p1_text)
-unfolding plan_text print_line decimal_in flat tab chains_below chain_length first_of loads loads_in load walk row_at next_of link held_in covers same
+unfolding plan_text print_line decimal_in flat tab chains_below chain_length first_of loads loads_in load walk row_at next_of link held_in
+    covers same
     sum_to
 printed1 = refl
 

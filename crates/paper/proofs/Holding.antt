@@ -72,7 +72,8 @@ held_cases (x ∷ xs) r u idle by =
     (λ e n. idle (held_no x xs r u p ∙ e) (λ k c. go p n k c.below c.covering))
     (λ k c e. by (suc k) (record { below = omega arith; covering = c.covering }) (held_no x xs r u p ∙ e)))
   where
-    go : covers x r u ≡ false → ((k : ℕ) → Covering xs r u k → ⊥) → (k : ℕ) → k < length (x ∷ xs) → covers (run_at (x ∷ xs) k) r u ≡ true → ⊥
+    go : covers x r u ≡ false → ((k : ℕ) → Covering xs r u k → ⊥) → (k : ℕ) → k < length (x ∷ xs) → covers (run_at (x ∷ xs) k) r u ≡ true
+        → ⊥
     go p n zero l q = not_both q p
     go p n (suc k) l q = n k (record { below = le_of_suc-le-suc l; covering = q })
 

@@ -59,7 +59,8 @@ in_ones_lem = planned 1 (length_case_at 3).set in_ones made.1 (refl, (refl, (ref
 -- ---- all that is stated
 
 lengths_each : Each LengthHolds length_cases
-unfolding plan taken in_range plan_at sa1 lay lay_one row_after unit_after slice whole block_length_of gcd_of gcd euclid duties_of tab sum_of first
+unfolding plan taken in_range plan_at sa1 lay lay_one row_after unit_after slice whole block_length_of gcd_of gcd euclid duties_of tab
+    sum_of first
 lengths_each = ((refl, (refl, tt)), ((refl, (refl, tt)), (in_threes_lem, (in_ones_lem, ((refl, tt), ((refl, tt), tt))))))
 
 pub lengths_hold : (i : ℕ) → i < length length_cases → LengthHolds (length_case_at i)
@@ -73,7 +74,8 @@ pub refused_hold : (i : ℕ) → i < length refused_cases → RefusedHolds (refu
 refused_hold = each_at RefusedHolds _ refused_cases refused_each
 
 judged_each : Each JudgeHolds judge_cases
-unfolding judge_table judge_duties judge_runs overlaps joins twice meet before unordered units_of whole slice block_length_of gcd_of gcd euclid
+unfolding judge_table judge_duties judge_runs overlaps joins twice meet before unordered units_of whole slice block_length_of gcd_of gcd
+    euclid
     first
 judged_each = (refl, (refl, (refl, (refl, tt))))
 

@@ -80,7 +80,8 @@ abbrev pub start_call : List ℕ → ℕ → List ℕ → Outcome (List ℕ)
 start_call b k lent = needing state_room lent (entries state_entries (start b k))
 
 abbrev pub row_call : List ℕ → List ℕ → ℕ → List ℕ → Outcome (List ℕ)
-row_call b state e lent = needing state_room state (needing word_room lent (entries (λ r. r.0 ∷ []) (row_told b (state_in state) (engine e))))
+row_call b state e lent =
+    needing state_room state (needing word_room lent (entries (λ r. r.0 ∷ []) (row_told b (state_in state) (engine e))))
 
 abbrev pub next_call : List ℕ → List ℕ → Outcome (List ℕ)
 next_call b state = needing state_room state (entries state_entries (advanced b (state_in state)))

@@ -32,7 +32,7 @@ undivided t ds = any (λ i. not (divides t (duty_at ds i).period)) (length ds)
 unfoldable pub slice : ℕ → Duty → ℕ
 slice t x = t * x.service / x.period
 
--- "It must be whole, that is, D/T divides C": D divides T-as-C
+-- "It must be whole, that is, D/T divides C": D divides T·C
 unfoldable pub whole : ℕ → Duty → Bool
 whole t x = divides x.period (t * x.service)
 

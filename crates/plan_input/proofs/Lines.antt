@@ -31,7 +31,8 @@ abbrev pub feed_in : List ℕ → ℕ
 feed_in xs = first (feed_at xs) (length xs)
 
 -- the lines of a text by its first byte, and of none
-lines_first : (x : ℕ) (xs : List ℕ) (t : Bool) → eqb x 10 ≡ t → lines_of (x ∷ xs) ≡ pick t (line [] true (lines_of xs)) (onto x (lines_of xs))
+lines_first : (x : ℕ) (xs : List ℕ) (t : Bool) → eqb x 10 ≡ t → lines_of (x ∷ xs)
+    ≡ pick t (line [] true (lines_of xs)) (onto x (lines_of xs))
 unfolding lines_of
 lines_first x xs t e = rw (← e)
 
@@ -83,7 +84,8 @@ good-parts i xs k p =
 -- the duties of lines by their first, and of none
 pub duties_first : (n : ℕ) (c : List ℕ) (ended : Bool) (ls : Lines)
     → duties_from n (line c ended ls)
-    ≡ pick (ended && duty_line_good c && not (ltb (most_duties + 1) n)) (and_then (duties_from (n + 1) ls) (λ ds. answer (duty_read c ∷ ds)))
+    ≡ pick (ended && duty_line_good c && not (ltb (most_duties + 1) n))
+    (and_then (duties_from (n + 1) ls) (λ ds. answer (duty_read c ∷ ds)))
     (refused 9 n)
 unfolding duties_from
 duties_first n c ended ls = refl
@@ -96,7 +98,8 @@ duties_none n = refl
 pub duties_line :
     (i : ℕ) (xs : List ℕ) (k : ℕ) (t : Bool) → k ≡ feed_in xs → 0 < length xs → line_good i xs k ≡ t
     → duties_from (i + 2) (lines_of xs)
-    ≡ pick t (and_then (duties_from (i + 1 + 2) (lines_of (drop (k + 1) xs))) (λ ds. answer (duty_read (take k xs) ∷ ds))) (refused 9 (i + 2))
+    ≡ pick t (and_then (duties_from (i + 1 + 2) (lines_of (drop (k + 1) xs))) (λ ds. answer (duty_read (take k xs) ∷ ds)))
+    (refused 9 (i + 2))
 duties_line i xs k t e h p =
     rw (← p)
     (lt_or_le k (length xs)

@@ -17,7 +17,8 @@ use Rattle.paper.specs.declared.InputRead.{InputRead}
 use Rattle.paper.specs.Outcome.{Outcome, refused, answer, and_then, verdict_as}
 use Rattle.paper.specs.Wanted.{Wanted, wanted_of}
 use Rattle.paper.specs.Limits.{most_duties, most_input}
-use Rattle.paper.specs.Text.{Lines, none, line, lines_of, duty_line_good, duty_read, duties_from, engine_line_good, engines_read, input_of, input}
+use Rattle.paper.specs.Text.{Lines, none, line, lines_of, duty_line_good, duty_read, duties_from, engine_line_good, engines_read}
+use Rattle.paper.specs.Text.{input_of, input}
 use Rattle.paper.specs.Text.{roomy, input_read}
 use Rattle.paper.proofs.Outcomes.{answered, answer_one, then_answer, past}
 use Rattle.plan_input.proofs.Lines.{duties_first, duties_none, input_is}

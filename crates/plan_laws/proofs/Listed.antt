@@ -19,7 +19,8 @@ use Rattle.paper.specs.declared.Duty.{Duty}
 use Rattle.paper.specs.Words.{Table, undivided}
 use Rattle.paper.specs.Limits.{most_place, small, end_length, most_blocks, last_block, most_duties, most_input}
 use Rattle.paper.specs.Outcome.{Outcome, refused, answer, and_then}
-use Rattle.paper.specs.Bytes.{encode, run_place, duty_place, duties_in, head_good, end_good, run_good, bad_duty, good_runs, table_in, after_runs}
+use Rattle.paper.specs.Bytes.{encode, run_place, duty_place, duties_in, head_good, end_good, run_good, bad_duty, good_runs, table_in}
+use Rattle.paper.specs.Bytes.{after_runs}
 use Rattle.paper.specs.Bytes.{after_head, parse}
 use Rattle.paper.specs.Wanted.{Wanted, wanted_of, duty_set, taken}
 use Rattle.paper.specs.Builder.{plan_for, bad_slice, plan_at, plan, build}
@@ -31,7 +32,8 @@ use Rattle.paper.specs.Sa1.{slices}
 use Rattle.table_laws.proofs.Accepted.{duties_same}
 use Rattle.paper.specs.Rules.{fault, judged, reading_of, lowest, overlaps, joins, twice, bad_sum, bad_order, judge_runs, judge_duties}
 use Rattle.paper.specs.Rules.{judge_table, accepted}
-use Rattle.paper.specs.Text.{Lines, none, line, lines_of, engine_line_good, engines_read, duty_line_good, duty_read, duties_from, input_of, input}
+use Rattle.paper.specs.Text.{Lines, none, line, lines_of, engine_line_good, engines_read, duty_line_good, duty_read, duties_from}
+use Rattle.paper.specs.Text.{input_of, input}
 use Rattle.paper.specs.Statements.{Ranged}
 use Rattle.paper.proofs.Outcomes.{answered, refused_one}
 use Rattle.table_laws.proofs.Bytes.{length-encode}
@@ -282,5 +284,6 @@ input_listed b = listed_pick (λ k. k ≡ 9) (ltb most_input (length b)) _ _
     go (line c ended ls) =
         let P : ℕ → Type 0 = λ k. k ≡ 9 in
         listed_pick P (ended && engine_line_good c) _ _
-        (λ h. listed_then P (duties_from 2 ls) _ (lines_listed 2 ls (omega arith)) (λ ds e. listed_answer P (wanted_of (engines_read c) ds)))
+        (λ h. listed_then P (duties_from 2 ls) _ (lines_listed 2 ls (omega arith))
+        (λ ds e. listed_answer P (wanted_of (engines_read c) ds)))
         (λ h. listed_refused P 9 1 refl (omega arith) (omega arith))

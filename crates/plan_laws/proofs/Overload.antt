@@ -1,5 +1,6 @@
 -- Where the builder gives 7, no schedule whatever meets the duties. Take h, the periods' common multiple. A schedule that meets them on m
--- engines gives them C·(h/D) ticks each, m·h together at most (`meets_most`). A slice N is whole, so N-as-D = T-as-C, and h·N = T·C·(h/D). So h
+-- engines gives them C·(h/D) ticks each, m·h together at most (`meets_most`). A slice N is whole, so N·D = T·C, and h·N =
+-- T·C·(h/D). So h
 -- times the slices is T·m·h at most, and the slices are m·T at most: 7 would not have been given. T is any length for which the slices are
 -- whole, and h any common multiple: who adds up the C/D by hand finds what the builder finds.
 -- Assumes nothing.

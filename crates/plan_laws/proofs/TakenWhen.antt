@@ -131,7 +131,8 @@ module _ (x : Wanted) where
       (sym q)
   told_taken o (period_out d q c l n) = past_counts c ∙ bad_range_lem d l ∙ rw
       (failed (within 1 most_ticks (duty_at ds d).period) (within_decides 1 most_ticks (duty_at ds d).period) n) (sym q)
-  told_taken o (service_out d q c l p) = past_counts c ∙ bad_range_lem d l ∙ rw ((within_decides 1 most_ticks (duty_at ds d).period).1 p) (sym q)
+  told_taken o (service_out d q c l p) =
+      past_counts c ∙ bad_range_lem d l ∙ rw ((within_decides 1 most_ticks (duty_at ds d).period).1 p) (sym q)
   told_taken o (all_taken q c) = takes c ∙ sym q
 
   -- the outcome is the one whose condition holds

@@ -35,7 +35,8 @@ pub record Recording (t : ℕ) (ds : List Duty) (l out : List ℕ) (at i : ℕ) 
   pub long : length out ≡ length l
   pub unit_below : p.unit < t
   pub row_most : p.row.0 ≤ i
-  pub both : Both (flat duty_bytes ds) (runs_left t ds 0 corner) l (flat duty_bytes (drop i ds)) (runs_left t ds i p) out (duty_length * i) at
+  pub both : Both (flat duty_bytes ds) (runs_left t ds 0 corner) l (flat duty_bytes (drop i ds)) (runs_left t ds i p) out
+      (duty_length * i) at
 
 pub recording_none :
     (t : ℕ) (ds : List Duty) (l : List ℕ) → records_length t ds ≤ length l → 1 ≤ t → Recording t ds l l (duty_length * length ds) 0 corner
@@ -46,7 +47,8 @@ recording_none t ds l h some =
       long = refl;
       unit_below = some;
       row_most = omega arith;
-      both = both_moved refl (duties_bytes ds) (both_none (flat duty_bytes ds) (runs_left t ds 0 corner) l (omega (arith, duties_bytes ds)));
+      both = both_moved refl (duties_bytes ds)
+          (both_none (flat duty_bytes ds) (runs_left t ds 0 corner) l (omega (arith, duties_bytes ds)));
     }
 
 module _ {t : ℕ} {ds : List Duty} {l out : List ℕ} {at i : ℕ} {p : Place} (r : Recording t ds l out at i p) (h : i < length ds) where

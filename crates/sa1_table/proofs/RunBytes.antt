@@ -23,7 +23,8 @@ module _ (t n i : ℕ) (p : Place) where
   pub bytes_whole : p.unit + n ≤ t → runs_bytes (laid_at t n i p) ≡ run_bytes small (first_run t n i p)
   bytes_whole h =
       let x = first_run t n i p in
-      ap runs_bytes (laid_whole t n i p h) ∙ flat_step (run_bytes small) x [] ∙ rw (flat_end (run_bytes small)) (append-nil (run_bytes small x))
+      ap runs_bytes (laid_whole t n i p h) ∙ flat_step (run_bytes small) x []
+      ∙ rw (flat_end (run_bytes small)) (append-nil (run_bytes small x))
 
   pub bytes_split :
       t < p.unit + n → runs_bytes (laid_at t n i p) ≡ run_bytes small (first_run t n i p) ++ (run_bytes small (second_run t n i p) ++ [])

@@ -46,7 +46,8 @@ records_length_lem t ds =
 
 -- .. and together
 pub sa1-length :
-    (t m : ℕ) (ds : List Duty) → length (bytes_of (sa1 t m ds)) ≡ table_length small (length ds) (length (laid_from t (slices t ds) 0 corner))
+    (t m : ℕ) (ds : List Duty) → length (bytes_of (sa1 t m ds))
+    ≡ table_length small (length ds) (length (laid_from t (slices t ds) 0 corner))
 sa1-length t m ds =
     let n = length ds in
     let k = length (laid_from t (slices t ds) 0 corner) in

@@ -46,7 +46,8 @@ begun_none s n rate rest whole part c e f g h =
 
 -- the whole units and the part of the first need
 first-whole :
-    (s : Sharing) (i : ℕ) → i < duty_count s → 0 < (duty_of s i).period → whole_of s (needs_at s 0) i ≡ share_of s i / (duty_of s i).period + 1
+    (s : Sharing) (i : ℕ) → i < duty_count s → 0 < (duty_of s i).period → whole_of s (needs_at s 0) i
+    ≡ share_of s i / (duty_of s i).period + 1
 first-whole s i l p = rw (need_first s i l) (add-div_right (share_of s i) p)
 
 first_part : (s : Sharing) (i : ℕ) → i < duty_count s → part_of s (needs_at s 0) i ≡ share_of s i % (duty_of s i).period

@@ -1,5 +1,6 @@
 -- A block on its way. Below duty i the lists hold what the next block begins with, and what the duties get; from i on, what this block
--- began with. A turn by plain numbers is a turn of SA2: the share's two numbers add up to T-as-C, so step 4 is the same, and a duty before the
+-- began with. A turn by plain numbers is a turn of SA2: the share's two numbers add up to T·C, so step 4 is the same, and a duty
+-- before the
 -- cut is one before which fewer than F want a unit. With it go the sum of the next whole units, and how many duties lacked.
 -- Assumes nothing.
 use Prim.Native.Nat.{ℕ, zero, suc, ◌+◌, ◌-◌, ◌*◌, ◌/◌, ◌%◌, ◌≤◌, ◌<◌}
@@ -21,7 +22,8 @@ use Rattle.laws.proofs.Lists.{length-tab, get_or-tab}
 use Rattle.laws.proofs.Turned.{Turned, turned_none, turned_any, turned_here, turned_more, turned_all, turned_over, any_none, any-more}
 use Rattle.paper.specs.Limits.{most_ticks}
 use Rattle.paper.specs.Statements.{DutyRanged}
-use Rattle.paper.specs.Sa2.{Sharing, duty_count, duty_of, share_of, whole_of, part_of, free, wants, chosen, raised_units, next_need, needs_at}
+use Rattle.paper.specs.Sa2.{Sharing, duty_count, duty_of, share_of, whole_of, part_of, free, wants, chosen, raised_units, next_need}
+use Rattle.paper.specs.Sa2.{needs_at}
 use Rattle.paper.specs.Sa2.{allotments}
 use Rattle.share_laws.specs.Short.{lacks, overfull, short}
 use Rattle.share_laws.specs.Cut.{cut_of, cut_at}
@@ -107,16 +109,17 @@ took s ws i d rate rest whole part cut u w p l h ed er eq ew ep ec hu hw hp hl =
 
 -- the free units of a block, and whether it comes short
 module _
-    (s : Sharing) (b have total : ℕ) (e : have ≡ s.engines * s.ticks + duty_count s) (f : total ≡ sum_to (duty_count s) (wholes_of s b)) where
-  room_is : (have - total ≡ free_at s b) × (lack_at s b || ltb have total ≡ short_at s b)
-  unfolding free short overfull
-  room_is = (rw (e, f), rw (e, f))
+    (s : Sharing) (b have total : ℕ) (e : have ≡ s.engines * s.ticks + duty_count s) (f : total ≡ sum_to (duty_count s) (wholes_of s b))
+  where
+    room_is : (have - total ≡ free_at s b) × (lack_at s b || ltb have total ≡ short_at s b)
+    unfolding free short overfull
+    room_is = (rw (e, f), rw (e, f))
 
-  pub free_is : have - total ≡ free_at s b
-  free_is = room_is.0
+    pub free_is : have - total ≡ free_at s b
+    free_is = room_is.0
 
-  pub short_is : (lacking past : Bool) → lacking ≡ lack_at s b → past ≡ ltb have total → lacking || past ≡ short_at s b
-  short_is lacking past l o = rw (l, o) room_is.1
+    pub short_is : (lacking past : Bool) → lacking ≡ lack_at s b → past ≡ ltb have total → lacking || past ≡ short_at s b
+    short_is lacking past l o = rw (l, o) room_is.1
 
 -- what is counted is some where it was before or the next one counts
 some_more : (a x : ℕ) (q : Bool) → x ≡ one_if q → ltb 0 (a + x) ≡ ltb 0 a || q

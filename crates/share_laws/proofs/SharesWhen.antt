@@ -58,9 +58,11 @@ pub data WhenShares (x : Wanted) (room : ℕ) (o : Outcome Sharing) : Type 0 whe
   -- 8 the lent list too short, at the entries needed
   list_short : o ≡ refused 8 (entries_needed (sharing_of x)) → Sharable x → room < entries_needed (sharing_of x) → WhenShares x room o
   -- 23 a block that is not good, at the first such block
-  block_bad : (b : ℕ) → o ≡ refused 23 b → Sharable x → entries_needed (sharing_of x) ≤ room → LowestBad (sharing_of x) b → WhenShares x room o
+  block_bad : (b : ℕ) → o ≡ refused 23 b → Sharable x → entries_needed (sharing_of x) ≤ room → LowestBad (sharing_of x) b
+      → WhenShares x room o
   -- else the plan
-  shares_given : o ≡ answer (sharing_of x) → Sharable x → entries_needed (sharing_of x) ≤ room → AllGood (sharing_of x) → WhenShares x room o
+  shares_given : o ≡ answer (sharing_of x) → Sharable x → entries_needed (sharing_of x) ≤ room → AllGood (sharing_of x)
+      → WhenShares x room o
 
 -- "No.", "When" and "Place" of refusals 23 and 18, which come after 1 to 5, 22 and 7, and when there is an answer
 pub data WhenAsked (x : Wanted) (e : Engine) (k : ℕ) (o : Outcome Held) : Type 0 where

@@ -110,7 +110,8 @@ module _ (s : Sharing) (i : ℕ) (l : i < duty_count s) where
       (add-mod-mod (share_of s i) ((b + 1) * share_of s i) (period_of s i) ∙ ap (λ (k : ℕ). k % period_of s i) more)
 
   -- a block takes from a need what it allots, and adds a share
-  need_step : (b : ℕ) → 1 ≤ raised_units s (needs_at s b) i → period_of s i * units_in s b i + need_of s (suc b) i ≡ need_of s b i + share_of s i
+  need_step : (b : ℕ) → 1 ≤ raised_units s (needs_at s b) i → period_of s i * units_in s b i + need_of s (suc b) i
+      ≡ need_of s b i + share_of s i
   unfolding next_need raised_units
   need_step b a =
       let ws = needs_at s b in

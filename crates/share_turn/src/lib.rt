@@ -82,7 +82,8 @@ pub fn take_turn(
 ) -> Turn
     requires { (t ≤ most_ticks) × (period ≤ most_ticks) × (rate ≤ t) × (rest < period) × (whole ≤ t + 1) × (part < period) }
     ensures units_value { result.units ≡ whole + one_if (chosen_by t whole part place cut) - 1 }
-    ensures whole_value { (result.whole ≡ next_by period rate rest part (chosen_by t whole part place cut) / period) × (result.whole ≤ t + 2) }
+    ensures whole_value { (result.whole
+        ≡ next_by period rate rest part (chosen_by t whole part place cut) / period) × (result.whole ≤ t + 2) }
     ensures part_value { result.part ≡ next_by period rate rest part (chosen_by t whole part place cut) % period }
     ensures lacking_value { (result.lacking ≡ one_if (eqb (whole + one_if (chosen_by t whole part place cut)) 0)) × (result.lacking ≤ 1) }
 {

@@ -20,7 +20,8 @@ use Rattle.paper.specs.declared.Run.{Run}
 use Rattle.paper.specs.Duties.{duty, duty_at}
 use Rattle.paper.specs.Words.{run, Table, run_at}
 use Rattle.paper.specs.Limits.{Width, head_length, duty_length, run_length, end_length}
-use Rattle.paper.specs.Bytes.{head_bytes, duty_bytes, run_bytes, end_bytes, encode, duty_place, run_place, stands, ticks_in, engines_in, duties_in}
+use Rattle.paper.specs.Bytes.{head_bytes, duty_bytes, run_bytes, end_bytes, encode, duty_place, run_place, stands, ticks_in}
+use Rattle.paper.specs.Bytes.{engines_in, duties_in}
 use Rattle.paper.specs.Bytes.{duty_in, run_in, table_in}
 use Rattle.table_laws.proofs.Bytes.{head_stands, duty-stands, run-stands}
 

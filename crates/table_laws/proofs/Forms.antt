@@ -9,7 +9,8 @@ use lib.Dec.{ltb}
 use lib.ListN.{length}
 use Rattle.paper.specs.Limits.{Width, end_length}
 use Rattle.paper.specs.Outcome.{refused, answer}
-use Rattle.paper.specs.Bytes.{duties_in, head_good, end_good, duty_place, run_place, bad_duty, good_runs, table_in, after_runs, after_head, parse}
+use Rattle.paper.specs.Bytes.{duties_in, head_good, end_good, duty_place, run_place, bad_duty, good_runs, table_in, after_runs}
+use Rattle.paper.specs.Bytes.{after_head, parse}
 
 module _ (w : Width) (b : List ℕ) where
   -- the head

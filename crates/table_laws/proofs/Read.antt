@@ -19,8 +19,10 @@ use Rattle.paper.specs.Duties.{duty}
 use Rattle.paper.specs.Words.{run, Table}
 use Rattle.paper.specs.Outcome.{answer}
 use Rattle.paper.specs.Limits.{Width, head_length, duty_length, run_length, end_length}
-use Rattle.paper.specs.Bytes.{head_bytes, duty_bytes, run_bytes, end_bytes, encode, duty_place, run_place, ticks_in, engines_in, duties_in, duty_in}
-use Rattle.paper.specs.Bytes.{run_in, head_good, duty_good, run_good, end_good, bad_duty, good_runs, table_in, after_runs, after_head, parse}
+use Rattle.paper.specs.Bytes.{head_bytes, duty_bytes, run_bytes, end_bytes, encode, duty_place, run_place, ticks_in, engines_in}
+use Rattle.paper.specs.Bytes.{duties_in, duty_in}
+use Rattle.paper.specs.Bytes.{run_in, head_good, duty_good, run_good, end_good, bad_duty, good_runs, table_in, after_runs, after_head}
+use Rattle.paper.specs.Bytes.{parse}
 use Rattle.paper.specs.Statements.{DutyRanged, RunRanged, Ranged}
 use Rattle.paper.proofs.Outcomes.{answer_one, past}
 use Rattle.paper.proofs.Passed.{Standing, HeadTold, head_told, duty-told, run-told, end_told}

@@ -104,7 +104,8 @@ NoPair bad xs = (j k : ℕ) → j < k → k < length xs → bad (run_at xs j) (r
 -- the search of 14, 15 and 16 finds no run exactly when no two runs are so
 pub lowest_none : (bad : Run → Run → Bool) (xs : List Run) → ltb (lowest bad xs) (length xs) ≡ false → NoPair bad xs
 lowest_none bad xs h j k l m =
-    none_clear (λ i. bad (run_at xs i) (run_at xs k)) k (none_clear (λ i. any (λ n. bad (run_at xs n) (run_at xs i)) i) (length xs) h k m) j l
+    none_clear (λ i. bad (run_at xs i) (run_at xs k)) k (none_clear (λ i. any (λ n. bad (run_at xs n) (run_at xs i)) i) (length xs) h k m)
+    j l
 
 pub none_lowest : (bad : Run → Run → Bool) (xs : List Run) → NoPair bad xs → ltb (lowest bad xs) (length xs) ≡ false
 none_lowest bad xs c =
@@ -153,7 +154,8 @@ apart_twice x y lx ly a =
 
 -- 15 of all runs: a run of the same row that stops where this one starts is another and stands before it
 abbrev pub NotJoined : List Run → Type 0
-NotJoined xs = (j k : ℕ) → j < length xs → k < length xs → (run_at xs j).row.0 ≡ (run_at xs k).row.0 → (run_at xs j).duty ≡ (run_at xs k).duty
+NotJoined xs =
+    (j k : ℕ) → j < length xs → k < length xs → (run_at xs j).row.0 ≡ (run_at xs k).row.0 → (run_at xs j).duty ≡ (run_at xs k).duty
     → stop (run_at xs j) ≡ (run_at xs k).first → ⊥
 
 pub joins_any : (xs : List Run) → InOrder xs → ((k : ℕ) → k < length xs → 1 ≤ (run_at xs k).length) → NoPair joins xs → NotJoined xs

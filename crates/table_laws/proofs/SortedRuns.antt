@@ -130,7 +130,8 @@ not_before : (xs : List Run) (c u : ℕ) → starts_before xs c u ≡ false → 
 not_before xs c u h some = ltb-false (run_at xs (c - 1)).first u (sym (starts_some xs c u some) ∙ h)
 
 -- the duty's last run is before it, if it starts before it
-pub begin_last : (xs : List Run) {owners k : ℕ} {last : List ℕ} → Recent (kept xs) owners k last → k < length xs → (run_at xs k).duty < owners
+pub begin_last : (xs : List Run) {owners k : ℕ} {last : List ℕ} → Recent (kept xs) owners k last → k < length xs
+    → (run_at xs k).duty < owners
     → starts_before xs (get_or last (run_at xs k).duty 0) (run_at xs k).first ≡ true
     → Below (kept xs) k (get_or last (run_at xs k).duty 0 - 1)
 begin_last xs {owners} {k} {last} R few own h =
@@ -142,7 +143,8 @@ begin_last xs {owners} {k} {last} R few own h =
 -- a spot before it, whose pointer leads to a run that starts before it: one step further
 pub step_on : (xs : List Run) {owners k s : ℕ} {pointers : List ℕ} → Sorted (kept xs) owners k pointers → k < length xs
     → (run_at xs k).duty < owners → Below (kept xs) k s → starts_before xs (get_or pointers s 0) (run_at xs k).first ≡ true
-    → (0 < get_or pointers s 0) × Below (kept xs) k (get_or pointers s 0 - 1) × (rank (kept xs) s < rank (kept xs) (get_or pointers s 0 - 1))
+    → (0 < get_or pointers s 0) × Below (kept xs) k (get_or pointers s 0 - 1)
+    × (rank (kept xs) s < rank (kept xs) (get_or pointers s 0 - 1))
 step_on xs {owners} {k} {s} {pointers} S few own B h =
     let c = get_or pointers s 0 in
     let some = before_some xs c (run_at xs k).first h in

@@ -1,5 +1,6 @@
--- A slice is whole exactly when D/T divides C, as document 01 has it. T divides D, so D is T·(D/T); and T·(D/T) divides T-as-C exactly when
--- D/T divides C. And what is whole for T is whole for every multiple of T, since D divides T-as-C and so each multiple of it: a shorter block
+-- A slice is whole exactly when D/T divides C, as document 01 has it. T divides D, so D is T·(D/T); and T·(D/T) divides T·C exactly when
+-- D/T divides C. And what is whole for T is whole for every multiple of T, since D divides T·C and so each multiple of it: a shorter
+-- block
 -- never makes a slice whole that was not.
 -- Assumes nothing.
 use Prim.Native.Nat.{ℕ, ◌*◌, ◌/◌, ◌<◌, ◌∣◌}

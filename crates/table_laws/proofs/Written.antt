@@ -16,12 +16,14 @@ use Rattle.paper.specs.Duties.{duty_at}
 use Rattle.paper.specs.Words.{stop, Table, run_at}
 use Rattle.paper.specs.Outcome.{answer}
 use Rattle.paper.specs.Limits.{Width, small, most_ticks, end_length, run_length}
-use Rattle.paper.specs.Bytes.{end_bytes, encode, duty_place, run_place, stands, head_good, duty_good, run_good, end_good, bad_duty, good_runs}
+use Rattle.paper.specs.Bytes.{end_bytes, encode, duty_place, run_place, stands, head_good, duty_good, run_good, end_good, bad_duty}
+use Rattle.paper.specs.Bytes.{good_runs}
 use Rattle.paper.specs.Bytes.{after_runs, after_head, parse}
 use Rattle.paper.specs.Statements.{Ranged}
 use Rattle.table_laws.proofs.Forms.{head_good_lem, duties_good, all_good}
 use Rattle.table_laws.proofs.Bytes.{length-encode, head_stands, duty-stands, run-stands, end_stands}
-use Rattle.table_laws.proofs.Fields.{InFields, head_kind_lem, ticks_read, engines_read_lem, duties_read, duty_kind_lem, duty-read, run_kind_lem}
+use Rattle.table_laws.proofs.Fields.{InFields, head_kind_lem, ticks_read, engines_read_lem, duties_read, duty_kind_lem, duty-read}
+use Rattle.table_laws.proofs.Fields.{run_kind_lem}
 use Rattle.table_laws.proofs.Fields.{run-read, end_kind_lem, end_read, table_read}
 use Rattle.paper.proofs.Passed.{duty_decides}
 

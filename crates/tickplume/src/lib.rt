@@ -6,7 +6,8 @@
 ghost use Rattle.std.specs.Prelude.{◌≡◌};
 ghost use Rattle.paper.specs.Outcome.{leaves};
 ghost use Rattle.paper.specs.Wanted.{wanted};
-ghost use Rattle.paper.specs.Face.{Tells, build_call, build_entries, judge_call, question_call, start_call, row_call, next_call, count_call};
+ghost use Rattle.paper.specs.Face.{Tells, build_call, build_entries, judge_call, question_call, start_call, row_call, next_call};
+ghost use Rattle.paper.specs.Face.{count_call};
 ghost use Rattle.paper.specs.Face.{shares_call, shares_entries, shares_left, share_at_call};
 
 use asked::Dispatcher;

@@ -171,7 +171,8 @@ module _ (c : ℕ → Bool) where
       }
 
   -- past it the list has that chain more
-  pub chains_onward : {m first : ℕ} {x : Chain} → Onward m first x → chains_below c m (first + x.length) ≡ chains_below c m first ++ (x ∷ [])
+  pub chains_onward : {m first : ℕ} {x : Chain} → Onward m first x → chains_below c m (first + x.length)
+      ≡ chains_below c m first ++ (x ∷ [])
   chains_onward {m} {first} {x} on =
       ap (λ n. chains_below c m (n + x.length)) (sym on.same) ∙ chains_more m on.own (omega (arith, on.same, on.within))
       ∙ ap (λ n. chains_below c m n ++ (x ∷ [])) on.same

@@ -102,7 +102,7 @@ served-blocks t l i b n =
 
 -- ---- jobs
 
--- D/T blocks of a slice make the service: with D = n·T and D-as-N = T-as-C, n·N = C
+-- D/T blocks of a slice make the service: with D = n·T and D·N = T·C, n·N = C
 slices_service : (t : ℕ) (x : Duty) → 0 < t → t ∣ x.period → x.period ∣ t * x.service → x.period / t * slice t x ≡ x.service
 unfolding slice
 slices_service t x h d w =

@@ -25,7 +25,9 @@ pub nonzero_rem-greatest : goal.nonzero_rem-greatest
 nonzero_rem-greatest c = meant_some (known (goal.at.nonzero_rem-greatest c).After-length_meant-t)
 
 pub returns-then-greatest-t-ne0 : goal.returns-then-greatest-t-ne0
-returns-then-greatest-t-ne0 c = writes_refused _ _ (refusal_24 (known (goal.at.returns-then-greatest-t-ne0 c).After-length_meant-t) (length c.args.out.now) c.if-greatest-t-ne0.true)
+returns-then-greatest-t-ne0 c =
+    writes_refused _ _
+    (refusal_24 (known (goal.at.returns-then-greatest-t-ne0 c).After-length_meant-t) (length c.args.out.now) c.if-greatest-t-ne0.true)
 
 pub build_fitting-requires : goal.build_fitting-requires
 build_fitting-requires c =
@@ -34,4 +36,5 @@ build_fitting-requires c =
 
 pub returns : goal.returns
 returns c =
-    writes_same (past_24 (known (goal.at.returns c).After-length_meant-t) (length c.args.out.now) c.if-greatest-t-ne0.false) c.build_fitting.ensures
+    writes_same (past_24 (known (goal.at.returns c).After-length_meant-t) (length c.args.out.now) c.if-greatest-t-ne0.false)
+    c.build_fitting.ensures

@@ -16,7 +16,8 @@ pub onward-turned-requires : goal.onward-turned-requires
 onward-turned-requires c = (omega arith, c.loop-i.invariant.1)
 
 pub row_of-requires : goal.row_of-requires
-row_of-requires c = let t = c.onward-turned.ensures in record { first_le_engine = omega (arith, t.chained); length_bound = omega (arith, t.most, places_few t) }
+row_of-requires c = let t =
+    c.onward-turned.ensures in record { first_le_engine = omega (arith, t.chained); length_bound = omega (arith, t.most, places_few t) }
 
 pub loop-i-preserved : goal.loop-i-preserved
 loop-i-preserved c =

@@ -23,11 +23,13 @@ pub returns-then-not-duty_in_range : goal.returns-then-not-duty_in_range
 returns-then-not-duty_in_range c =
     let args = c.args in
     rw (length_duties args.services.now args.periods.now)
-    (seek_hit c.loop-i.invariant (search rules) (sym (told (goal.at.returns-then-not-duty_in_range c).After-duty_in_range) ∙ ap not c.if-not-duty_in_range.true))
+    (seek_hit c.loop-i.invariant (search rules)
+    (sym (told (goal.at.returns-then-not-duty_in_range c).After-duty_in_range) ∙ ap not c.if-not-duty_in_range.true))
 
 pub loop-i-preserved : goal.loop-i-preserved
 loop-i-preserved c =
-    seek_more c.loop-i.invariant (search rules) (sym (told (goal.at.loop-i-preserved c).After-duty_in_range) ∙ ap not c.if-not-duty_in_range.false)
+    seek_more c.loop-i.invariant (search rules)
+    (sym (told (goal.at.loop-i-preserved c).After-duty_in_range) ∙ ap not c.if-not-duty_in_range.false)
 
 pub returns : goal.returns
 returns c =

@@ -39,11 +39,14 @@ engines-in : (c : Else-not-is_within) → within 1 most_engines (asked-1 c).engi
 engines-in c = sym c.is_within.ensures ∙ c.if-not-is_within.false
 
 pub returns-then-duties-periods : goal.returns-then-duties-periods
-returns-then-duties-periods c = sym (lengths_refused (asked-1 (goal.at.returns-then-duties-periods c).Else-not-is_within) (engines-in (goal.at.returns-then-duties-periods c).Else-not-is_within) (search rules))
+returns-then-duties-periods c =
+    sym (lengths_refused (asked-1 (goal.at.returns-then-duties-periods c).Else-not-is_within)
+    (engines-in (goal.at.returns-then-duties-periods c).Else-not-is_within) (search rules))
 
 pub returns-then-not-is_within-2 : goal.returns-then-not-is_within-2
 returns-then-not-is_within-2 c =
-    sym (duties_refused (asked-1 (goal.at.returns-then-not-is_within-2 c).Else-not-is_within) (engines-in (goal.at.returns-then-not-is_within-2 c).Else-not-is_within) (search rules)
+    sym (duties_refused (asked-1 (goal.at.returns-then-not-is_within-2 c).Else-not-is_within)
+    (engines-in (goal.at.returns-then-not-is_within-2 c).Else-not-is_within) (search rules)
     (sym c.is_within-2.ensures ∙ c.if-not-is_within-2.true))
 
 -- past the third none of 1 to 3 applies
@@ -53,18 +56,21 @@ past c =
     (sym c.is_within-2.ensures ∙ c.if-not-is_within-2.false)
 
 pub bad_range-bad-requires : goal.bad_range-bad-requires
-bad_range-bad-requires c = let counts = past (goal.at.bad_range-bad-requires c).Else-not-is_within-2 in record { same = counts.lengths; few = counts.duties.1 }
+bad_range-bad-requires c = let counts =
+    past (goal.at.bad_range-bad-requires c).Else-not-is_within-2 in record { same = counts.lengths; few = counts.duties.1 }
 
 pub returns-then-bad-duties : goal.returns-then-bad-duties
 returns-then-bad-duties c =
     let x = asked-3 (goal.at.returns-then-bad-duties c).Else-not-is_within-2 in
     let bad = c.bad_range-bad in
     let many = length_duties x.services x.periods in
-    let refuses = range_refused x (past (goal.at.returns-then-bad-duties c).Else-not-is_within-2) bad.result bad.ensures (omega (arith, many)) in
+    let refuses =
+    range_refused x (past (goal.at.returns-then-bad-duties c).Else-not-is_within-2) bad.result bad.ensures (omega (arith, many)) in
     rw (refuses, duty_is x.services x.periods bad.result (search rules)) c.range_fault-why.ensures
 
 pub returns : goal.returns
 returns c =
     let x = asked-3 (goal.at.returns c).Else-not-is_within-2 in
     let many = length_duties x.services x.periods in
-    sym (ranges_taken x (past (goal.at.returns c).Else-not-is_within-2) c.bad_range-bad.result c.bad_range-bad.ensures (omega (arith, many)))
+    sym (ranges_taken x (past (goal.at.returns c).Else-not-is_within-2) c.bad_range-bad.result c.bad_range-bad.ensures
+    (omega (arith, many)))

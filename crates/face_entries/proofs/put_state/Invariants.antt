@@ -9,7 +9,8 @@ use Rattle.face_entries.proofs.put_state.Given as goal
 
 abbrev pub invariant-loop-e : goal.invariant-loop-e
 invariant-loop-e l =
-    (l.e ≤ most_engines) × (length l.rows ≡ most_engines) × (state_room ≤ length l.initial.state) × (length l.state ≡ length l.initial.state)
+    (l.e ≤ most_engines) × (length l.rows ≡ most_engines) × (state_room ≤ length l.initial.state)
+    × (length l.state ≡ length l.initial.state)
     × Wrote (get_or l.initial.state 0 0 ∷ row_numbers l.rows) l.initial.state (drop l.e (row_numbers l.rows)) l.state (l.e + 1)
 
 abbrev pub decreases-loop-e : goal.decreases-loop-e

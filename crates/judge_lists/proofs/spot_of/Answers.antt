@@ -52,18 +52,30 @@ on : (c : In-loop-rd) →
     (0 < pointer) × Below w c.args.k (pointer - 1) × (rank w spot < rank w (pointer - 1))
 on c e =
     let xs = (table_of c.args.b.now c.args.rd).runs in
-    step_on xs c.requires.2 (known c.before.before.before.before.before.before.before.before).0 (known c.before.before.before.before.before.before.before.before).1 c.loop-rd.invariant e
+    step_on xs c.requires.2 (known c.before.before.before.before.before.before.before.before).0
+    (known c.before.before.before.before.before.before.before.before).1 c.loop-rd.invariant e
 
 pub overflow_sub-spot : goal.overflow_sub-spot
-overflow_sub-spot c = rw c.pointer_at-spot.ensures (on (goal.at.overflow_sub-spot c).In-loop-rd (led (goal.at.overflow_sub-spot c).After-starts_before c.loop-rd-test.true)).0
+overflow_sub-spot c =
+    rw c.pointer_at-spot.ensures
+    (on (goal.at.overflow_sub-spot c).In-loop-rd (led (goal.at.overflow_sub-spot c).After-starts_before c.loop-rd-test.true)).0
 
 pub loop-rd-smaller : goal.loop-rd-smaller
-loop-rd-smaller c = rw c.pointer_at-spot.ensures (omega (arith, (on (goal.at.loop-rd-smaller c).In-loop-rd (led (goal.at.loop-rd-smaller c).After-starts_before c.loop-rd-test.true)).2, (on (goal.at.loop-rd-smaller c).In-loop-rd (led (goal.at.loop-rd-smaller c).After-starts_before c.loop-rd-test.true)).1.under))
+loop-rd-smaller c =
+    rw c.pointer_at-spot.ensures
+    (omega (
+      arith,
+      (on (goal.at.loop-rd-smaller c).In-loop-rd (led (goal.at.loop-rd-smaller c).After-starts_before c.loop-rd-test.true)).2,
+      (on (goal.at.loop-rd-smaller c).In-loop-rd (led (goal.at.loop-rd-smaller c).After-starts_before c.loop-rd-test.true)).1.under,
+    ))
 
 pub loop-rd-preserved : goal.loop-rd-preserved
-loop-rd-preserved c = rw c.pointer_at-spot.ensures (on (goal.at.loop-rd-preserved c).In-loop-rd (led (goal.at.loop-rd-preserved c).After-starts_before c.loop-rd-test.true)).1
+loop-rd-preserved c =
+    rw c.pointer_at-spot.ensures
+    (on (goal.at.loop-rd-preserved c).In-loop-rd (led (goal.at.loop-rd-preserved c).After-starts_before c.loop-rd-test.true)).1
 
 pub returns : goal.returns
 returns c =
     let xs = (table_of c.args.b.now c.args.rd).runs in
-    step_none xs c.requires.2 (known (goal.at.returns c).Start).0 (known (goal.at.returns c).Start).1 c.loop-rd.invariant (led (goal.at.returns c).After-starts_before c.loop-rd-test.false)
+    step_none xs c.requires.2 (known (goal.at.returns c).Start).0 (known (goal.at.returns c).Start).1 c.loop-rd.invariant
+    (led (goal.at.returns c).After-starts_before c.loop-rd-test.false)

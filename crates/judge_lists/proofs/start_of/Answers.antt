@@ -17,7 +17,11 @@ use Rattle.judge_lists.proofs.start_of.Goals.{Then-starts_before}
 pub starts_before-requires : goal.starts_before-requires
 starts_before-requires c =
     let run_of = c.run_of-y in
-    record { formed = c.requires.0; pointer_le_runs = omega (arith, c.pointer_at-pointer.ensures, recent_few c.requires.2 run_of.ensures.1.duty_below) }
+    record {
+      formed = c.requires.0;
+      pointer_le_runs =
+          omega (arith, c.pointer_at-pointer.ensures, recent_few c.requires.2 run_of.ensures.1.duty_below);
+    }
 
 -- the last run starts before run k
 led : (c : Then-starts_before) →

@@ -24,11 +24,13 @@ single c = found_none 16 _ c.lowest_twice-twice.ensures (table_runs c.args.b.now
 
 pub returns-then-wrong-rd : goal.returns-then-wrong-rd
 returns-then-wrong-rd c =
-    refuses (single (goal.at.returns-then-wrong-rd c).Else-twice-rd ∙ found_one 17 _ c.bad_sum-wrong.ensures (table_duties c.args.b.now c.args.rd) (omega arith))
+    refuses (single (goal.at.returns-then-wrong-rd c).Else-twice-rd
+    ∙ found_one 17 _ c.bad_sum-wrong.ensures (table_duties c.args.b.now c.args.rd) (omega arith))
 
 pub returns : goal.returns
 returns c =
     rw (
-      single (goal.at.returns c).Else-twice-rd ∙ found_none 17 _ c.bad_sum-wrong.ensures (table_duties c.args.b.now c.args.rd) (omega arith),
+      single (goal.at.returns c).Else-twice-rd
+          ∙ found_none 17 _ c.bad_sum-wrong.ensures (table_duties c.args.b.now c.args.rd) (omega arith),
       table_reading _ _ c.requires.0,
     )

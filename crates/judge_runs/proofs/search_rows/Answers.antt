@@ -35,7 +35,8 @@ ordered c =
 
 pub returns-then-overlapping-runs : goal.returns-then-overlapping-runs
 returns-then-overlapping-runs c =
-    refuses (ordered (goal.at.returns-then-overlapping-runs c).Else-unordered-runs ∙ found_one 14 _ c.lowest_overlap-overlapping.ensures (table_runs c.args.b.now c.args.rd) (omega arith))
+    refuses (ordered (goal.at.returns-then-overlapping-runs c).Else-unordered-runs
+    ∙ found_one 14 _ c.lowest_overlap-overlapping.ensures (table_runs c.args.b.now c.args.rd) (omega arith))
 
 -- no two runs of a row share a unit
 apart : (c : Else-overlapping-runs) → Left from14 (table_of c.args.b.now c.args.rd) → Left from15 (table_of c.args.b.now c.args.rd)
@@ -44,11 +45,14 @@ apart c before =
 
 pub returns-then-joined-runs : goal.returns-then-joined-runs
 returns-then-joined-runs c =
-    refuses (apart (goal.at.returns-then-joined-runs c).Else-overlapping-runs (ordered (goal.at.returns-then-joined-runs c).Else-unordered-runs) ∙ found_one 15 _ c.lowest_joint-joined.ensures (table_runs c.args.b.now c.args.rd) (omega arith))
+    refuses (apart (goal.at.returns-then-joined-runs c).Else-overlapping-runs
+    (ordered (goal.at.returns-then-joined-runs c).Else-unordered-runs)
+    ∙ found_one 15 _ c.lowest_joint-joined.ensures (table_runs c.args.b.now c.args.rd) (omega arith))
 
 pub returns : goal.returns
 returns c =
     rw (
-      apart (goal.at.returns c).Else-overlapping-runs (ordered (goal.at.returns c).Else-unordered-runs) ∙ found_none 15 _ c.lowest_joint-joined.ensures (table_runs c.args.b.now c.args.rd) (omega arith),
+      apart (goal.at.returns c).Else-overlapping-runs (ordered (goal.at.returns c).Else-unordered-runs)
+          ∙ found_none 15 _ c.lowest_joint-joined.ensures (table_runs c.args.b.now c.args.rd) (omega arith),
       table_reading _ _ c.requires.0,
     )

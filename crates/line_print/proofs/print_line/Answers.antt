@@ -63,5 +63,6 @@ returns c =
     let first = c.put_bytes in
     let put = c.print_numbers in
     let both = more _ _ (10 ∷ []) _ (flat spaced numbers) _ _ (word_written word numbers _ _ first.ensures) put.ensures.1 in
-    let all = stored _ _ [] _ 10 _ (moved (ap (λ n. length word + n) (sym put.ensures.0)) both) (room (goal.at.returns c).After-slice_known-3-1).0 in
+    let all = stored _ _ [] _ 10 _ (moved (ap (λ n. length word + n) (sym put.ensures.0)) both)
+    (room (goal.at.returns c).After-slice_known-3-1).0 in
     ((room (goal.at.returns c).After-slice_known-3-1).1, done _ _ _ _ all)

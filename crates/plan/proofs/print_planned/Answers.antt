@@ -24,7 +24,8 @@ slice_bounds-table-end c =
     (built_bytes (wanted_in given) build.ensures c.in-Length.is).0
 
 pub slice_bounds-print_plan-end : goal.slice_bounds-print_plan-end
-slice_bounds-print_plan-end c = sym (length-take-le _ _ (slice_bounds-table-end (goal.at.slice_bounds-print_plan-end c).After-print_plan-arg-1))
+slice_bounds-print_plan-end c =
+    sym (length-take-le _ _ (slice_bounds-table-end (goal.at.slice_bounds-print_plan-end c).After-print_plan-arg-1))
 
 pub returns-in-Length : goal.returns-in-Length
 returns-in-Length c =

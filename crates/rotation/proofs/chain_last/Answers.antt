@@ -18,4 +18,5 @@ returns-else-linked c =
     record { after = search rules; most = search rules; chained = loop.invariant.2; ends = sym linked.ensures ∙ c.if-linked.false }
 
 pub returns-after-loop-r : goal.returns-after-loop-r
-returns-after-loop-r c = record { after = search rules; most = search rules; chained = c.loop-r.invariant.2; ends = link_past _ (search rules) }
+returns-after-loop-r c =
+    record { after = search rules; most = search rules; chained = c.loop-r.invariant.2; ends = link_past _ (search rules) }

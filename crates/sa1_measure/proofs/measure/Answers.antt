@@ -44,7 +44,8 @@ returns-then-share-gt0 c =
     let args = c.args in
     let many = length_duties args.services.now args.periods.now in
     let here : c.loop-i.i < length (duties_of args.services.now args.periods.now) = omega (arith, many) in
-    let broken = ap not (told (goal.at.returns-then-share-gt0 c).After-share_of-share ∙ ne_eqb c.share_of-share.result.rest 0 (search rules)) in
+    let broken = ap not
+    (told (goal.at.returns-then-share-gt0 c).After-share_of-share ∙ ne_eqb c.share_of-share.result.rest 0 (search rules)) in
     record { found = seek_hit c.loop-i.invariant.0 here broken; laid = λ all. absurd (omega (arith, all, here)) }
 
 pub loop-i-preserved : goal.loop-i-preserved
@@ -56,7 +57,9 @@ loop-i-preserved c =
     let h : loop.i < length ds = omega (arith, length_duties args.services.now args.periods.now) in
     let n = c.share_of-share.result.units in
     let laid : n ≡ slice t (duty_at ds loop.i) = c.share_of-share.ensures.0 ∙ ap (slice t) c.duty_at.ensures in
-    let Whole-here = ap not (told (goal.at.loop-i-preserved c).After-share_of-share ∙ eq-eqb c.share_of-share.result.rest 0 (omega (arith, c.if-share-gt0.false))) in
+    let Whole-here =
+    ap not (told (goal.at.loop-i-preserved c).After-share_of-share
+    ∙ eq-eqb c.share_of-share.result.rest 0 (omega (arith, c.if-share-gt0.false))) in
     let moves = ap (units_to t) c.after-place.ensures.0 ∙ units_after t n loop.place in (
       seek_more loop.invariant.0 h Whole-here,
       omega arith,

@@ -54,7 +54,8 @@ overflow_add-needed-3 c = omega arith
 pub returns-then-room-needed : goal.returns-then-room-needed
 returns-then-room-needed c =
     let a = c.args in
-    sym (fitted_8 (a.engines * a.t) (units_to a.t a.end) (needed (goal.at.returns-then-room-needed c).Start) a.room (search rules) (search rules))
+    sym (fitted_8 (a.engines * a.t) (units_to a.t a.end) (needed (goal.at.returns-then-room-needed c).Start) a.room (search rules)
+    (search rules))
 
 pub returns : goal.returns
 returns c =

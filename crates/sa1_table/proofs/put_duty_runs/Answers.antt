@@ -38,8 +38,10 @@ pub returns-then-runs_at-eq1 : goal.returns-then-runs_at-eq1
 returns-then-runs_at-eq1 c =
     let args = c.args in
     let first = c.put_run.ensures ∙ ap (λ (x : Run). over (run_bytes small x) args.out.now) c.first_run.ensures in
-    let all = bytes_whole args.t args.n args.i args.from (one (goal.at.returns-then-runs_at-eq1 c).Then-runs_at-eq1).0 in
-    (first ∙ ap (λ (w : List ℕ). over w args.out.now) (sym all), omega (arith, (one (goal.at.returns-then-runs_at-eq1 c).Then-runs_at-eq1).1))
+    let all = bytes_whole args.t args.n args.i args.from (one (goal.at.returns-then-runs_at-eq1 c).Then-runs_at-eq1).0 in (
+      first ∙ ap (λ (w : List ℕ). over w args.out.now) (sym all),
+      omega (arith, (one (goal.at.returns-then-runs_at-eq1 c).Then-runs_at-eq1).1),
+    )
 
 pub slice_bounds-put_run-count : goal.slice_bounds-put_run-count
 slice_bounds-put_run-count c = omega (arith, (two (goal.at.slice_bounds-put_run-count c).Else-runs_at-eq1).1, c.out-1.given)

@@ -31,10 +31,12 @@ pub overflow_mul-record : goal.overflow_mul-record
 overflow_mul-record c = omega (arith, c.loop-i-test.true, c.requires.0.paired.few)
 
 pub slice_bounds-put_duty-start : goal.slice_bounds-put_duty-start
-slice_bounds-put_duty-start c = omega (arith, duty_room c.loop-i.invariant (here c.args.services.now c.args.periods.now c.loop-i.i c.loop-i-test.true))
+slice_bounds-put_duty-start c =
+    omega (arith, duty_room c.loop-i.invariant (here c.args.services.now c.args.periods.now c.loop-i.i c.loop-i-test.true))
 
 pub put_duty-requires : goal.put_duty-requires
-put_duty-requires c = rw length-lent (omega (arith, duty_room c.loop-i.invariant (here c.args.services.now c.args.periods.now c.loop-i.i c.loop-i-test.true)))
+put_duty-requires c =
+    rw length-lent (omega (arith, duty_room c.loop-i.invariant (here c.args.services.now c.args.periods.now c.loop-i.i c.loop-i-test.true)))
 
 pub slice_of-n-requires : goal.slice_of-n-requires
 slice_of-n-requires c =
@@ -51,7 +53,8 @@ placed :
     (c : After-slice_of-n) → let loop = c.loop-i in
     loop.at + run_length small * runs_at c.args.t c.slice_of-n.result loop.place.unit ≤ length loop.out
 placed c =
-    runs_room c.loop-i.invariant (here c.args.services.now c.args.periods.now c.loop-i.i c.loop-i-test.true) c.slice_of-n.result _ (cut c) refl
+    runs_room c.loop-i.invariant (here c.args.services.now c.args.periods.now c.loop-i.i c.loop-i-test.true) c.slice_of-n.result _ (cut c)
+    refl
 
 pub slice_bounds-put_duty_runs-start : goal.slice_bounds-put_duty_runs-start
 slice_bounds-put_duty_runs-start c = omega (arith, placed (goal.at.slice_bounds-put_duty_runs-start c).After-slice_of-n, c.out-1.given.1)
@@ -75,8 +78,12 @@ overflow_add-at c =
 
 pub after-place-requires : goal.after-place-requires
 after-place-requires c =
-    let inv = c.loop-i.invariant in
-    (inv.unit_below, c.slice_of-n.ensures.1, c.requires.0.ticks_most, omega (arith, inv.row_most, c.loop-i-test.true, c.requires.0.paired.few))
+    let inv = c.loop-i.invariant in (
+      inv.unit_below,
+      c.slice_of-n.ensures.1,
+      c.requires.0.ticks_most,
+      omega (arith, inv.row_most, c.loop-i-test.true, c.requires.0.paired.few),
+    )
 
 pub overflow_add-i : goal.overflow_add-i
 overflow_add-i c =
@@ -87,7 +94,8 @@ loop-i-preserved c =
     let loop = c.loop-i in
     let wrote = c.put_duty.ensures in
     rw c.put_duty_runs-at.ensures.1
-    (recording_more loop.invariant (here c.args.services.now c.args.periods.now c.loop-i.i c.loop-i-test.true) c.slice_of-n.result _ (cut (goal.at.loop-i-preserved c).After-slice_of-n) c.after-place.ensures.0 _ _ _
+    (recording_more loop.invariant (here c.args.services.now c.args.periods.now c.loop-i.i c.loop-i-test.true) c.slice_of-n.result _
+    (cut (goal.at.loop-i-preserved c).After-slice_of-n) c.after-place.ensures.0 _ _ _
     c.duty_at-x.ensures wrote
     c.put_duty_runs-at.ensures.0
     (omega (arith, c.out-in-loop-i-1.given.1, c.out-1.given.1, loop.invariant.long))

@@ -41,7 +41,13 @@ bounds-part-i c = omega (arith, (at-duty (goal.at.bounds-part-i c).In-loop-i).0,
 
 pub overflow_add-wanting : goal.overflow_add-wanting
 overflow_add-wanting c =
-    omega (arith, c.loop-i.invariant.0.few, c.loop-i.invariant.0.seeking.within, c.one_if-wanting.ensures.1, c.requires.sliceable.0.paired.few)
+    omega (
+      arith,
+      c.loop-i.invariant.0.few,
+      c.loop-i.invariant.0.seeking.within,
+      c.one_if-wanting.ensures.1,
+      c.requires.sliceable.0.paired.few,
+    )
 
 pub overflow_add-i : goal.overflow_add-i
 overflow_add-i c =
@@ -55,7 +61,8 @@ loop-i-preserved c =
     let loop = c.loop-i in
     let on = at-duty (goal.at.loop-i-preserved c).In-loop-i in
     let wants = c.one_if-wanting.ensures.0 ∙ ap one_if c.wants_more.ensures in
-    let more = cutting_more _ _ _ _ loop.invariant.0 c.requires.sliceable.1 c.requires.left_value on.0 on.1 wants c.one_if-wanting.ensures.1 in
+    let more = cutting_more _ _ _ _ loop.invariant.0 c.requires.sliceable.1 c.requires.left_value on.0 on.1 wants
+    c.one_if-wanting.ensures.1 in
     (more, loop.invariant.1, loop.invariant.2)
 
 pub overflow_cast-result : goal.overflow_cast-result
@@ -65,5 +72,7 @@ overflow_cast-result c =
 pub returns : goal.returns
 returns c =
     let loop = c.loop-i in
-    let stop = stopped loop.i (length c.args.services.now) loop.wanting c.args.left c.loop-i-test.false in
-    (cutting_end _ loop.invariant.0 c.requires.left_value stop, omega (arith, loop.invariant.0.seeking.within, c.requires.sliceable.0.paired.few))
+    let stop = stopped loop.i (length c.args.services.now) loop.wanting c.args.left c.loop-i-test.false in (
+      cutting_end _ loop.invariant.0 c.requires.left_value stop,
+      omega (arith, loop.invariant.0.seeking.within, c.requires.sliceable.0.paired.few),
+    )

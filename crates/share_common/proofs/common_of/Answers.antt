@@ -37,15 +37,22 @@ positive c = lcm_of_positive c.args.periods.now c.requires.2
 pub returns-then-most-further : goal.returns-then-most-further
 returns-then-most-further c =
     let s = c in
-    let within = le_of_dvd (positive (goal.at.returns-then-most-further c).After-multiple_of-further) (divides (goal.at.returns-then-most-further c).After-multiple_of-further) in
+    let within = le_of_dvd (positive (goal.at.returns-then-most-further c).After-multiple_of-further)
+    (divides (goal.at.returns-then-most-further c).After-multiple_of-further) in
     rw (lt-ltb (most_share_blocks * s.args.t) (lcm_of s.args.periods.now) (omega (arith, within, c.if-most-further.true)))
 
 pub overflow_cast-common : goal.overflow_cast-common
 overflow_cast-common c = omega (arith, c.if-most-further.false, c.requires.1)
 
 pub loop-i-preserved : goal.loop-i-preserved
-loop-i-preserved c =
-    (search rules, pos_of_dvd_of_pos (divides (goal.at.loop-i-preserved c).After-multiple_of-further) (positive (goal.at.loop-i-preserved c).After-multiple_of-further), omega (arith, c.if-most-further.false), next (goal.at.loop-i-preserved c).After-multiple_of-further)
+loop-i-preserved c = (
+  search rules,
+  pos_of_dvd_of_pos (divides (goal.at.loop-i-preserved c).After-multiple_of-further)
+      (positive (goal.at.loop-i-preserved c).After-multiple_of-further),
+  omega (arith, c.if-most-further.false),
+  next
+      (goal.at.loop-i-preserved c).After-multiple_of-further,
+)
 
 pub returns : goal.returns
 returns c =

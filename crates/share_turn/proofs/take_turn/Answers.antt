@@ -24,4 +24,10 @@ returns c =
     let whole = next_whole s.period s.rate s.rest s.part chosen _ _ carry took (search rules) in
     let part = c.part_of-left.ensures ∙ next_part s.period s.rate s.rest s.part chosen (search rules) in
     let lacking = c.one_if-lacking.ensures.0 ∙ ap (λ (k : ℕ). one_if (eqb (s.whole + k) 0)) took in
-    record { units_value = units; whole_value = (whole, search rules); part_value = part; lacking_value = (lacking, c.one_if-lacking.ensures.1) }
+    record {
+      units_value = units;
+      whole_value = (whole, search rules);
+      part_value = part;
+      lacking_value =
+          (lacking, c.one_if-lacking.ensures.1);
+    }

@@ -60,4 +60,5 @@ pub returns : goal.returns
 returns c =
     let found = c.bad_duty-d.ensures in
     let n = c.read_head-head.ensures.2 in
-    rw (after-head (goal.at.returns c).Else-not-head_good _ n, duties_good small _ _ (rw found at (le-ltb _ _ c.if-d-n.false))) c.form_of_runs.ensures
+    rw (after-head (goal.at.returns c).Else-not-head_good _ n, duties_good small _ _ (rw found at (le-ltb _ _ c.if-d-n.false)))
+    c.form_of_runs.ensures

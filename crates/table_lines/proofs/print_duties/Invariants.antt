@@ -14,7 +14,8 @@ abbrev pub numbers_of : List ℕ → Reading → List ℕ
 numbers_of b rd = tab (length (table_of b rd).duties) (λ i. i)
 
 abbrev pub invariant-loop-i : goal.invariant-loop-i
-invariant-loop-i l = Lining (duty_line (table_of l.b l.rd).duties) (numbers_of l.b l.rd) l.rd.duties duty_lines_room l.initial.out l.out l.at l.i
+invariant-loop-i l =
+    Lining (duty_line (table_of l.b l.rd).duties) (numbers_of l.b l.rd) l.rd.duties duty_lines_room l.initial.out l.out l.at l.i
 
 abbrev pub decreases-loop-i : goal.decreases-loop-i
 decreases-loop-i l = l.n - l.i

@@ -16,7 +16,8 @@ want c = wanted c.args.engines c.args.services.now c.args.periods.now
 pub returns-then-answer-lt-WORD_ROOM : goal.returns-then-answer-lt-WORD_ROOM
 returns-then-answer-lt-WORD_ROOM c =
     let both =
-    build_short (wish (goal.at.returns-then-answer-lt-WORD_ROOM c).Start) (want (goal.at.returns-then-answer-lt-WORD_ROOM c).Start) c.args.table.now c.args.answer.now _ c.if-answer-lt-WORD_ROOM.true
+    build_short (wish (goal.at.returns-then-answer-lt-WORD_ROOM c).Start) (want (goal.at.returns-then-answer-lt-WORD_ROOM c).Start)
+    c.args.table.now c.args.answer.now _ c.if-answer-lt-WORD_ROOM.true
     c.too_short.ensures
     in
     record { tells = both.0; table_after = both.1 }
@@ -24,7 +25,8 @@ returns-then-answer-lt-WORD_ROOM c =
 pub word_of-requires : goal.word_of-requires
 word_of-requires c =
     let build = c.build in
-    build_fits (wish (goal.at.word_of-requires c).Start) (want (goal.at.word_of-requires c).Start) c.args.table.now build.ensures c.in-Refused.is
+    build_fits (wish (goal.at.word_of-requires c).Start) (want (goal.at.word_of-requires c).Start) c.args.table.now build.ensures
+    c.in-Refused.is
 
 pub bounds-answer-0 : goal.bounds-answer-0
 bounds-answer-0 c =
@@ -39,7 +41,8 @@ shape_of-table-in-Refused c =
 pub returns-in-Refused : goal.returns-in-Refused
 returns-in-Refused c =
     let both =
-    build_refused (wish (goal.at.returns-in-Refused c).Start) (want (goal.at.returns-in-Refused c).Start) c.args.table.now c.args.answer.now _ c.if-answer-lt-WORD_ROOM.false
+    build_refused (wish (goal.at.returns-in-Refused c).Start) (want (goal.at.returns-in-Refused c).Start) c.args.table.now
+    c.args.answer.now _ c.if-answer-lt-WORD_ROOM.false
     c.build.ensures c.in-Refused.is c.word_of.ensures
     in
     record { tells = both.0; table_after = both.1 }
@@ -52,7 +55,8 @@ shape_of-table-in-Length c =
 pub returns-in-Length : goal.returns-in-Length
 returns-in-Length c =
     let both =
-    build_answer (wish (goal.at.returns-in-Length c).Start) (want (goal.at.returns-in-Length c).Start) c.args.table.now c.args.answer.now _ c.if-answer-lt-WORD_ROOM.false
+    build_answer (wish (goal.at.returns-in-Length c).Start) (want (goal.at.returns-in-Length c).Start) c.args.table.now c.args.answer.now
+    _ c.if-answer-lt-WORD_ROOM.false
     c.build.ensures c.in-Length.is
     in
     record { tells = both.0; table_after = both.1 }

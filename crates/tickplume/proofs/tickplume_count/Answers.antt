@@ -12,7 +12,8 @@ use Rattle.face_entries.proofs.Stored.{stored_one}
 use Rattle.tickplume.proofs.tickplume_count.Goals as goal
 
 pub returns-then-answer-lt-WORD_ROOM : goal.returns-then-answer-lt-WORD_ROOM
-returns-then-answer-lt-WORD_ROOM c = rw (lt-ltb _ word_room c.if-answer-lt-WORD_ROOM.true) (record { said = c.too_short.ensures; left = refl })
+returns-then-answer-lt-WORD_ROOM c =
+    rw (lt-ltb _ word_room c.if-answer-lt-WORD_ROOM.true) (record { said = c.too_short.ensures; left = refl })
 
 pub word_of-requires : goal.word_of-requires
 word_of-requires c =

@@ -11,7 +11,8 @@ use Rattle.tickplume.proofs.Telling.{listed_fits, tell_refused, tell_answer}
 use Rattle.tickplume.proofs.tickplume_judge.Goals as goal
 
 pub returns-then-answer-lt-READING_ROOM : goal.returns-then-answer-lt-READING_ROOM
-returns-then-answer-lt-READING_ROOM c = rw (lt-ltb _ reading_room c.if-answer-lt-READING_ROOM.true) (record { said = c.too_short.ensures; left = refl })
+returns-then-answer-lt-READING_ROOM c =
+    rw (lt-ltb _ reading_room c.if-answer-lt-READING_ROOM.true) (record { said = c.too_short.ensures; left = refl })
 
 pub word_of-requires : goal.word_of-requires
 word_of-requires c =

@@ -12,7 +12,8 @@ use Rattle.tickplume.proofs.tickplume_next.Goals as goal
 use Rattle.tickplume.proofs.tickplume_next.Goals.{After-next, Start}
 
 pub returns-then-state-lt-STATE_ROOM : goal.returns-then-state-lt-STATE_ROOM
-returns-then-state-lt-STATE_ROOM c = rw (lt-ltb _ state_room c.if-state-lt-STATE_ROOM.true) (record { said = c.too_short.ensures; left = refl })
+returns-then-state-lt-STATE_ROOM c =
+    rw (lt-ltb _ state_room c.if-state-lt-STATE_ROOM.true) (record { said = c.too_short.ensures; left = refl })
 
 pub state_in-requires : goal.state_in-requires
 state_in-requires c = c.if-state-lt-STATE_ROOM.false

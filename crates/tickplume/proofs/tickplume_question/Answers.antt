@@ -10,7 +10,8 @@ use Rattle.tickplume.proofs.Telling.{listed_fits, tell_refused, tell_answer}
 use Rattle.tickplume.proofs.tickplume_question.Goals as goal
 
 pub returns-then-answer-lt-REPLY_ROOM : goal.returns-then-answer-lt-REPLY_ROOM
-returns-then-answer-lt-REPLY_ROOM c = rw (lt-ltb _ reply_room c.if-answer-lt-REPLY_ROOM.true) (record { said = c.too_short.ensures; left = refl })
+returns-then-answer-lt-REPLY_ROOM c =
+    rw (lt-ltb _ reply_room c.if-answer-lt-REPLY_ROOM.true) (record { said = c.too_short.ensures; left = refl })
 
 pub word_of-requires : goal.word_of-requires
 word_of-requires c = listed_fits (question_listed _ _ _)

@@ -21,10 +21,12 @@ abbrev rowEntry : Row → List ℕ
 rowEntry r = r.0 ∷ []
 
 pub returns-then-state-lt-STATE_ROOM : goal.returns-then-state-lt-STATE_ROOM
-returns-then-state-lt-STATE_ROOM c = rw (lt-ltb _ state_room c.if-state-lt-STATE_ROOM.true) (record { said = c.too_short.ensures; left = refl })
+returns-then-state-lt-STATE_ROOM c =
+    rw (lt-ltb _ state_room c.if-state-lt-STATE_ROOM.true) (record { said = c.too_short.ensures; left = refl })
 
 pub returns-then-answer-lt-WORD_ROOM : goal.returns-then-answer-lt-WORD_ROOM
-returns-then-answer-lt-WORD_ROOM c = rw (le-ltb _ state_room c.if-state-lt-STATE_ROOM.false, lt-ltb _ word_room c.if-answer-lt-WORD_ROOM.true)
+returns-then-answer-lt-WORD_ROOM c =
+    rw (le-ltb _ state_room c.if-state-lt-STATE_ROOM.false, lt-ltb _ word_room c.if-answer-lt-WORD_ROOM.true)
     (record { said = c.too_short-then-answer-lt-WORD_ROOM.ensures; left = refl })
 
 pub state_in-requires : goal.state_in-requires
@@ -52,7 +54,8 @@ bounds-answer-0 c =
 pub returns-in-Refused : goal.returns-in-Refused
 returns-in-Refused c =
     tell_next state_room (le-ltb _ state_room c.if-state-lt-STATE_ROOM.false)
-    (tell_refused rowEntry word_room c.if-answer-lt-WORD_ROOM.false (sym (told (goal.at.returns-in-Refused c).After-row) ∙ ap row_as c.in-Refused.is)
+    (tell_refused rowEntry word_room c.if-answer-lt-WORD_ROOM.false
+    (sym (told (goal.at.returns-in-Refused c).After-row) ∙ ap row_as c.in-Refused.is)
     c.word_of.ensures)
 
 pub returns-in-At : goal.returns-in-At

@@ -13,7 +13,8 @@ use Rattle.tickplume.proofs.Telling.{listed_fits, tell_refused, tell_answer}
 use Rattle.tickplume.proofs.tickplume_share_at.Goals as goal
 
 pub returns-then-answer-lt-WORD_ROOM : goal.returns-then-answer-lt-WORD_ROOM
-returns-then-answer-lt-WORD_ROOM c = rw (lt-ltb _ word_room c.if-answer-lt-WORD_ROOM.true) (record { said = c.too_short.ensures; left = refl })
+returns-then-answer-lt-WORD_ROOM c =
+    rw (lt-ltb _ word_room c.if-answer-lt-WORD_ROOM.true) (record { said = c.too_short.ensures; left = refl })
 
 pub word_of-requires : goal.word_of-requires
 word_of-requires c =

@@ -13,7 +13,8 @@ want c = wanted c.args.engines c.args.services.now c.args.periods.now
 pub returns-then-answer-lt-SHARE_READING_ROOM : goal.returns-then-answer-lt-SHARE_READING_ROOM
 returns-then-answer-lt-SHARE_READING_ROOM c =
     let both =
-    shares_short (want (goal.at.returns-then-answer-lt-SHARE_READING_ROOM c).Start) c.args.allotments.now c.args.answer.now _ c.if-answer-lt-SHARE_READING_ROOM.true c.too_short.ensures
+    shares_short (want (goal.at.returns-then-answer-lt-SHARE_READING_ROOM c).Start) c.args.allotments.now c.args.answer.now _
+    c.if-answer-lt-SHARE_READING_ROOM.true c.too_short.ensures
     in
     record { tells = both.0; allotments_after = both.1 }
 
@@ -26,7 +27,8 @@ word_of-requires c =
 pub returns-in-Refused : goal.returns-in-Refused
 returns-in-Refused c =
     let both =
-    shares_refused (want (goal.at.returns-in-Refused c).Start) c.args.allotments.now c.args.answer.now _ c.if-answer-lt-SHARE_READING_ROOM.false
+    shares_refused (want (goal.at.returns-in-Refused c).Start) c.args.allotments.now c.args.answer.now _
+    c.if-answer-lt-SHARE_READING_ROOM.false
     c.build_shares.ensures c.in-Refused.is c.word_of.ensures
     in
     record { tells = both.0; allotments_after = both.1 }
@@ -34,7 +36,8 @@ returns-in-Refused c =
 pub returns-in-Given : goal.returns-in-Given
 returns-in-Given c =
     let both =
-    shares_answer (want (goal.at.returns-in-Given c).Start) c.args.allotments.now c.args.answer.now _ c.if-answer-lt-SHARE_READING_ROOM.false
+    shares_answer (want (goal.at.returns-in-Given c).Start) c.args.allotments.now c.args.answer.now _
+    c.if-answer-lt-SHARE_READING_ROOM.false
     c.build_shares.ensures c.in-Given.is
     c.put_share_reading.ensures
     in
