@@ -119,7 +119,7 @@ table3_units =
 -- .. and who runs at some ticks of block 1, and of the block that repeats it
 abbrev pub table3_ticks : List ShareFact
 table3_ticks =
-    shared_tick 15 (engine 0) (By 0) ∷ shared_tick 16 (engine 0) (By 1) ∷ shared_tick 10 (engine 1) (By 1) 
+    shared_tick 15 (engine 0) (By 0) ∷ shared_tick 16 (engine 0) (By 1) ∷ shared_tick 10 (engine 1) (By 1)
     ∷ shared_tick 12 (engine 2) (By 4)
     ∷ shared_tick 72 (engine 2) (By 4) ∷ []
 

@@ -62,7 +62,7 @@ fn run_plan(input: &[u8], out: &mut [u8; TEXT_ROOM]) -> usize
 }
 
 // Reads, runs and prints. One byte more than the longest input is read, so that a longer one is seen; each read gives a byte or more until
-// the input ends. Output that is lost is told on standard error: a program has no status of its own to tell it by.
+// the input ends. A read that fails ends the program with the error. Output that is lost is told on standard error, and the status stays 0.
 fn main(rt: HostRuntime) -> io::Result<()> {
     let mut input = [0u8; MOST_INPUT + 1];
     let mut n = 0;
