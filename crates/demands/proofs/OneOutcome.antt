@@ -32,7 +32,6 @@ use Rattle.paper.specs.declared.RowTold.{RowTold}
 use Rattle.paper.specs.declared.RowTold.TheVariants.{At, Refused as NoRow}
 use Rattle.paper.specs.declared.Counted.{Counted}
 use Rattle.paper.specs.declared.Counted.TheVariants.{Loads, Refused as NoCount}
-use Rattle.paper.specs.declared.Held.{Held}
 use Rattle.paper.specs.declared.SharesTold.{SharesTold}
 use Rattle.paper.specs.declared.SharesTold.TheVariants.{Given, Refused as NotGiven}
 use Rattle.paper.specs.declared.ShareAnswer.{ShareAnswer}
@@ -44,7 +43,7 @@ use Rattle.paper.specs.Sa2.{Sharing}
 use Rattle.paper.specs.Shares.{shares_as, GivesShares, share_answer_as}
 use Rattle.paper.specs.Face.{shares_call, shares_entries, shares_left, share_at_call}
 use Rattle.paper.specs.Limits.{word_room, reading_room, reply_room, share_reading_room, state_room}
-use Rattle.paper.specs.Duties.{engine}
+use Rattle.paper.specs.Duties.{Held, engine}
 use Rattle.paper.specs.Face.{state_entries, state_in}
 use Rattle.paper.specs.Face.{Tells, word_of, entries, needing, build_call, build_entries, judge_call, question_call, start_call, row_call}
 use Rattle.paper.specs.Face.{next_call, count_call}
