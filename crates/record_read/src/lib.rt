@@ -8,11 +8,13 @@ ghost use Rattle.paper.specs.Limits.{small, most_duties, most_runs, head_length,
 ghost use Rattle.paper.specs.Bytes.{duty_in, run_in, duty_place, run_place};
 ghost use Rattle.paper.specs.Duties.{duty_at};
 ghost use Rattle.paper.specs.Words.{run_at};
-ghost use Rattle.paper.specs.Statements.{DutyRanged, RunRanged};
+ghost use Rattle.paper.specs.Statements.{DutyRanged, RunRanged, Ranged};
+ghost use Rattle.paper.specs.Rules.{reading_of};
 ghost use Rattle.record_read.specs.Formed.{IsHead, Formed, table_of};
 
 use paper::limits::{DUTY_LENGTH, FIRST_FIELD, HEAD_LENGTH, LENGTH_FIELD, RUN_LENGTH};
 use paper::{Duty, Reading, Row, Run};
+use std::marker::Model;
 
 // A byte as a wider number.
 fn wide(x: u8) -> u32
@@ -111,21 +113,57 @@ pub fn run_place(duties: usize, k: usize) -> usize
     HEAD_LENGTH + DUTY_LENGTH * duties + RUN_LENGTH * k
 }
 
-// Duty d.
-pub fn duty_of(b: &[u8], rd: Reading, d: usize) -> Duty
-    requires formed { Formed b.now rd }
-    requires d_lt_duties { d < rd.duties }
-    ensures { (result ≡ duty_at (table_of b.now rd).duties d) × DutyRanged result }
-{
-    read_duty(b, duty_place(d))
+// A table's bytes in good form, with what their reader read off them. A contract sees the table in them.
+#[derive(Drop)]
+pub struct TableBytes<'a> {
+    bytes: &'a [u8],
+    reading: Reading,
 }
 
-// Run k.
-pub fn run_of(b: &[u8], rd: Reading, k: usize) -> Run
-    requires formed { Formed b.now rd }
-    requires k_lt_runs { k < rd.runs }
-    ensures { (result ≡ run_at (table_of b.now rd).runs k)
-        × RunRanged rd.block_length rd.engines rd.duties result }
-{
-    read_run(b, run_place(rd.duties as usize, k))
+impl<'a> Model for TableBytes<'a> {
+    ghost use Rattle.paper.specs.Words.{Table};
+
+    ghost Value = { Table };
+
+    ghost use Rattle.record_read.specs.Formed.{Formed, table_of};
+
+    ghost view = { λ t. table_of t.bytes.now t.reading };
+
+    ghost invariant = { λ t. Formed t.bytes.now t.reading };
+}
+
+impl<'a> TableBytes<'a> {
+    // Bytes in good form, and their reading.
+    pub fn new(bytes: &'a [u8], reading: Reading) -> TableBytes<'a>
+        requires { Formed bytes.now reading }
+        ensures { result ≡ table_of bytes.now reading }
+    {
+        TableBytes { bytes, reading }
+    }
+
+    // The block length, and how many engines, duties and runs there are.
+    pub fn reading(&self) -> Reading
+        ensures told { result ≡ reading_of self.now }
+        ensures ranged { Ranged small self.now }
+    {
+        self.reading
+    }
+
+    // Duty d.
+    pub fn duty(&self, d: usize) -> Duty
+        requires { d < length self.now.duties }
+        ensures told { result ≡ duty_at self.now.duties d }
+        ensures ranged { DutyRanged result }
+    {
+        read_duty(self.bytes, duty_place(d))
+    }
+
+    // Run k.
+    pub fn run(&self, k: usize) -> Run
+        requires { k < length self.now.runs }
+        ensures told { result ≡ run_at self.now.runs k }
+        ensures ranged { RunRanged self.now.ticks self.now.engines (length self.now.duties) result }
+    {
+        read_run(self.bytes, run_place(self.reading.duties as usize, k))
+    }
 }
