@@ -12,9 +12,8 @@ use borrow.Author.Tests.{le-ltb}
 use lib.ListN.{length}
 use Rattle.paper.specs.declared.Duty.{Duty}
 use Rattle.paper.specs.declared.Engine.{Engine}
-use Rattle.paper.specs.declared.Held.{Held}
-use Rattle.paper.specs.declared.Held.TheVariants.{By}
-use Rattle.paper.specs.Duties.{engine, duty, duty_at, asked_in}
+use Rattle.std.specs.Prelude.{Some}
+use Rattle.paper.specs.Duties.{Held, engine, duty, duty_at, asked_in}
 use Rattle.paper.specs.Words.{Table}
 use Rattle.paper.specs.Walk.{walk}
 use Rattle.paper.specs.Schedule.{Schedule, given}
@@ -44,7 +43,7 @@ use Rattle.demands.proofs.YetPossible.{refused_24, refused_6, refused_22, refuse
 -- "a duty at most one engine" is a count there; it says that two engines which have the duty in one tick are one
 pub one_engine_says :
     (m : ℕ) (s : Schedule) (i k : ℕ)
-    → (given m s i k ≤ 1) ↔ ((e d : ℕ) → e < m → d < m → s (engine e) k ≡ By i → s (engine d) k ≡ By i → e ≡ d)
+    → (given m s i k ≤ 1) ↔ ((e d : ℕ) → e < m → d < m → s (engine e) k ≡ Some i → s (engine d) k ≡ Some i → e ≡ d)
 one_engine_says = once_when
 
 -- what is possible on m engines is possible on more

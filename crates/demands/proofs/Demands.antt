@@ -12,7 +12,7 @@ use Rattle.laws.specs.Sum.{sum_to}
 use Rattle.laws.proofs.Digits.{AreBytes}
 use Rattle.paper.specs.declared.Engine.{Engine}
 use Rattle.paper.specs.declared.Duty.{Duty}
-use Rattle.paper.specs.declared.Held.TheVariants.{By}
+use Rattle.std.specs.Prelude.{Some}
 use Rattle.paper.specs.Duties.{engine, job_start, duty_at}
 use Rattle.paper.specs.Words.{row, block_length_of, Table, held_in}
 use Rattle.paper.specs.Sa1.{sa1}
@@ -139,7 +139,7 @@ module _ (b : List ℕ) (t : Table) (h : accepted b ≡ answer t) where
   pub not_twice : (i k : ℕ) → given t.engines (walk t) i k ≤ 1
   not_twice = page.not_twice small t (accepted_ranged b t h) (accepted_meets b t h)
 
-  pub same_engine : (i k e d : ℕ) → walk t (engine e) k ≡ By i → walk t (engine d) k ≡ By i → e ≡ d
+  pub same_engine : (i k e d : ℕ) → walk t (engine e) k ≡ Some i → walk t (engine d) k ≡ Some i → e ≡ d
   same_engine = page.same_engine small t (accepted_ranged b t h) (accepted_meets b t h)
 
   -- ---- Demand 3. "For every accepted table, engine and tick, the direct answer is the one found by walking from block 0 with the

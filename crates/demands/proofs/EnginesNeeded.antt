@@ -14,7 +14,7 @@ use Rattle.laws.specs.Choice.{pick, one_if}
 use Rattle.laws.proofs.Cases.{lt_or_le}
 use Rattle.laws.proofs.Sum.{sum_ext, sum_zero, sum_split}
 use Rattle.paper.specs.declared.Duty.{Duty}
-use Rattle.paper.specs.declared.Held.TheVariants.{Idle, By}
+use Rattle.std.specs.Prelude.{None, Some}
 use Rattle.paper.specs.Duties.{engine, duty_at, job_start, asked_in, same}
 use Rattle.paper.specs.Words.{Table}
 use Rattle.paper.specs.Sa1.{sa1}
@@ -35,16 +35,16 @@ use Rattle.plan_laws.proofs.Overload.{asked_slices, plan-overloaded, plan_imposs
 
 -- a schedule on m engines, with idle ones beside them
 abbrev widened : ℕ → Schedule → Schedule
-widened m s e k = pick (ltb e.0 m) (s e k) Idle
+widened m s e k = pick (ltb e.0 m) (s e k) None
 
 given-widened : (m more : ℕ) (s : Schedule) (i k : ℕ) → given (m + more) (widened m s) i k ≡ given m s i k
 unfolding given same
 given-widened m more s i k =
-    let on : ℕ → ℕ = λ e. one_if (same (widened m s (engine e) k) (By i)) in
+    let on : ℕ → ℕ = λ e. one_if (same (widened m s (engine e) k) (Some i)) in
     omega (
       arith,
       sum_split m more on,
-      sum_ext m on (λ e. one_if (same (s (engine e) k) (By i))) (λ e l. rw (lt-ltb e m l)),
+      sum_ext m on (λ e. one_if (same (s (engine e) k) (Some i))) (λ e l. rw (lt-ltb e m l)),
       sum_zero more (λ e. on (m + e)) (λ e l. rw (le-ltb (m + e) m (omega arith))),
     )
 

@@ -16,7 +16,7 @@ use Rattle.laws.specs.Divisor.{gcd_of, gcd, euclid, lcm_of, lcm}
 use Rattle.laws.proofs.Lists.{length-tab}
 use Rattle.laws.proofs.Digits.{AreBytes}
 use Rattle.paper.specs.declared.Duty.{Duty}
-use Rattle.paper.specs.declared.Held.TheVariants.{By}
+use Rattle.std.specs.Prelude.{Some}
 use Rattle.paper.specs.Duties.{duty, engine, same, services_of, periods_of}
 use Rattle.paper.specs.Words.{run, row, slice, whole, covers, held_in, block_length_of, Table}
 use Rattle.paper.specs.Sa1.{sa1, lay, lay_one, row_after, unit_after}
@@ -94,7 +94,7 @@ unfolding by_hand
 job_of_by_hand = jobs_served (bytes_of by_hand) by_hand by_hand-accepted 1 (omega arith) 5
 
 -- at tick 10 engine 2 runs row 2, where unit 4 is duty 0's
-pub question_of_by_hand : question (bytes_of by_hand) (engine 2) 10 ≡ answer (record { held = By 0; row = row 2 })
+pub question_of_by_hand : question (bytes_of by_hand) (engine 2) 10 ≡ answer (record { held = Some 0; row = row 2 })
 unfolding by_hand walk link held_in covers same row_at next_of first_of
 question_of_by_hand = question_walks (bytes_of by_hand) by_hand by_hand-accepted (engine 2) 10 (omega arith)
 
@@ -130,7 +130,7 @@ unfolding by_hand_short
 job_of_by_hand_short = jobs_served (bytes_of by_hand_short) by_hand_short by_hand_short-accepted 0 (omega arith) 3
 
 -- at tick 5, in block 1, engine 0 runs row 1, where unit 2 is duty 1's
-pub question_of_by_hand_short : question (bytes_of by_hand_short) (engine 0) 5 ≡ answer (record { held = By 1; row = row 1 })
+pub question_of_by_hand_short : question (bytes_of by_hand_short) (engine 0) 5 ≡ answer (record { held = Some 1; row = row 1 })
 unfolding by_hand_short walk link held_in covers same row_at next_of first_of
 question_of_by_hand_short = question_walks (bytes_of by_hand_short) by_hand_short by_hand_short-accepted (engine 0) 5 (omega arith)
 

@@ -9,8 +9,7 @@ use mathlib.Core.Logic.{◌↔◌}
 use lib.ListN.{length}
 use Rattle.laws.proofs.Search.{Clear}
 use Rattle.paper.specs.declared.Engine.{Engine}
-use Rattle.paper.specs.declared.Held.{Held}
-use Rattle.paper.specs.Duties.{job_start}
+use Rattle.paper.specs.Duties.{Held, job_start}
 use Rattle.paper.specs.Words.{row, held_in}
 use Rattle.paper.specs.Schedule.{given, served}
 use Rattle.paper.specs.Outcome.{Outcome, answer}

@@ -18,41 +18,40 @@ use Rattle.laws.specs.Sum.{sum_to}
 use Rattle.laws.proofs.Cases.{by_order, not_both}
 use Rattle.laws.proofs.Sum.{sum_none, sum_le, sum_const, sum_zero, sum_blocks, sum_swap, count_once, once_counted}
 use Rattle.paper.specs.declared.Duty.{Duty}
-use Rattle.paper.specs.declared.Held.{Held}
-use Rattle.paper.specs.declared.Held.TheVariants.{Idle, By}
-use Rattle.paper.specs.Duties.{engine, duty, duty_at, job_start, asks, asked_in, same}
+use Rattle.std.specs.Prelude.{None, Some}
+use Rattle.paper.specs.Duties.{Held, engine, duty, duty_at, job_start, asks, asked_in, same}
 use Rattle.paper.specs.Schedule.{Schedule, given, served}
 use Rattle.paper.specs.Capacity.{MeetsDuties, Possible}
 
 -- ---- a duty on one engine at most
 
 -- what is one with a duty is the duty
-pub same_held : (h : Held) (i : ℕ) → same h (By i) ≡ true → h ≡ By i
+pub same_held : (h : Held) (i : ℕ) → same h (Some i) ≡ true → h ≡ Some i
 unfolding same
-same_held Idle i p = not_both p refl
-same_held (By j) i p = ap By (eqb-true j i p)
+same_held None i p = not_both p refl
+same_held (Some j) i p = ap Some (eqb-true j i p)
 
-held_same : (h : Held) (i : ℕ) → h ≡ By i → same h (By i) ≡ true
+held_same : (h : Held) (i : ℕ) → h ≡ Some i → same h (Some i) ≡ true
 unfolding same
 held_same h i e = rw (e, eq-eqb i i refl)
 
 -- counted, it says that two engines which have the duty in one tick are one
 pub once_when :
     (m : ℕ) (s : Schedule) (i k : ℕ)
-    → (given m s i k ≤ 1) ↔ ((e d : ℕ) → e < m → d < m → s (engine e) k ≡ By i → s (engine d) k ≡ By i → e ≡ d)
+    → (given m s i k ≤ 1) ↔ ((e d : ℕ) → e < m → d < m → s (engine e) k ≡ Some i → s (engine d) k ≡ Some i → e ≡ d)
 unfolding given
 once_when m s i k = (there, back)
   where
     has : ℕ → Bool
-    has e = same (s (engine e) k) (By i)
+    has e = same (s (engine e) k) (Some i)
 
-    there : sum_to m (λ e. one_if (has e)) ≤ 1 → (e d : ℕ) → e < m → d < m → s (engine e) k ≡ By i → s (engine d) k ≡ By i → e ≡ d
+    there : sum_to m (λ e. one_if (has e)) ≤ 1 → (e d : ℕ) → e < m → d < m → s (engine e) k ≡ Some i → s (engine d) k ≡ Some i → e ≡ d
     there a e d l h p q =
         let at-e = held_same (s (engine e) k) i p in
         let at-d = held_same (s (engine d) k) i q in
         by_order e d (λ b. absurd (once_counted m has a e d b h at-e at-d)) (λ b. absurd (once_counted m has a d e b l at-d at-e)) (λ z. z)
 
-    back : ((e d : ℕ) → e < m → d < m → s (engine e) k ≡ By i → s (engine d) k ≡ By i → e ≡ d) → sum_to m (λ e. one_if (has e)) ≤ 1
+    back : ((e d : ℕ) → e < m → d < m → s (engine e) k ≡ Some i → s (engine d) k ≡ Some i → e ≡ d) → sum_to m (λ e. one_if (has e)) ≤ 1
     back u =
         count_once m has
         (λ e d l h p q. omega (arith, u e d (omega arith) h (same_held (s (engine e) k) i p) (same_held (s (engine d) k) i q)))
@@ -73,15 +72,15 @@ exactly_meets m ds s once jobs =
 abbrev always : List Duty
 always = duty 1 1 ∷ []
 
-pub idle_meets_not : MeetsDuties 1 always (λ e k. Idle) → ⊥
+pub idle_meets_not : MeetsDuties 1 always (λ e k. None) → ⊥
 unfolding served given same sum_to
 idle_meets_not h =
-    let none : served 1 (λ e k. Idle) 0 (job_start (duty 1 1) 0) 1 ≡ 0 = refl in
+    let none : served 1 (λ e k. None) 0 (job_start (duty 1 1) 0) 1 ≡ 0 = refl in
     omega (arith, h.in_time 0 0 (omega arith), none)
 
 -- .. one that serves the first job alone, ..
 abbrev only_first : Schedule
-only_first e k = pick (eqb k 0) (By 0) Idle
+only_first e k = pick (eqb k 0) (Some 0) None
 
 pub first_meets_not : MeetsDuties 1 always only_first → ⊥
 unfolding served given same sum_to
@@ -90,28 +89,28 @@ first_meets_not h =
     omega (arith, h.in_time 0 1 (omega arith), none)
 
 -- .. and two that serve it at once
-pub both_meet_not : MeetsDuties 2 always (λ e k. By 0) → ⊥
+pub both_meet_not : MeetsDuties 2 always (λ e k. Some 0) → ⊥
 unfolding given same sum_to
 both_meet_not h =
-    let two : given 2 (λ e k. By 0) 0 0 ≡ 2 = refl in
+    let two : given 2 (λ e k. Some 0) 0 0 ≡ 2 = refl in
     omega (arith, h.one_engine 0 0 (omega arith), two)
 
 -- ---- what engines have to give
 
 -- of any duties an engine has one at most
-one_duty : (h : Held) (i j : ℕ) → same h (By i) ≡ true → same h (By j) ≡ true → i ≡ j
-one_duty h i j p q = let both : By i ≡ By j = sym (same_held h i p) ∙ same_held h j q in cc
+one_duty : (h : Held) (i j : ℕ) → same h (Some i) ≡ true → same h (Some j) ≡ true → i ≡ j
+one_duty h i j p q = let both : Some i ≡ Some j = sym (same_held h i p) ∙ same_held h j q in cc
 
 -- so at a tick m engines serve m duties at most, ..
 tick_most : (m n : ℕ) (s : Schedule) (k : ℕ) → sum_to n (λ i. given m s i k) ≤ m
 unfolding given
 tick_most m n s k =
-    let on : ℕ → ℕ → ℕ = λ i e. one_if (same (s (engine e) k) (By i)) in
+    let on : ℕ → ℕ → ℕ = λ i e. one_if (same (s (engine e) k) (Some i)) in
     omega (
       arith,
       sum_swap n m on,
       sum_le m (λ e. sum_to n (λ i. on i e)) (λ e. 1)
-          (λ e h. count_once n (λ i. same (s (engine e) k) (By i)) (λ i j l b p q. omega (arith, one_duty (s (engine e) k) i j p q))),
+          (λ e h. count_once n (λ i. same (s (engine e) k) (Some i)) (λ i j l b p q. omega (arith, one_duty (s (engine e) k) i j p q))),
       sum_const m 1,
     )
 
@@ -160,7 +159,7 @@ module _ (m : ℕ) (ds : List Duty) (s : Schedule) (meets : MeetsDuties m ds s) 
 -- on no engine nothing is met: one duty with some service is enough
 none_given : (s : Schedule) (i k : ℕ) → given 0 s i k ≡ 0
 unfolding given
-none_given s i k = sum_none (λ e. one_if (same (s (engine e) k) (By i)))
+none_given s i k = sum_none (λ e. one_if (same (s (engine e) k) (Some i)))
 
 pub none_on_none : (ds : List Duty) → 0 < length ds → 1 ≤ (duty_at ds 0).service → Possible 0 ds → ⊥
 unfolding served

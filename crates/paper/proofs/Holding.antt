@@ -15,9 +15,8 @@ use borrow.Author.Tests.{eqb-true, leb-true, ltb-true, eq-eqb, le-leb, lt-ltb}
 use Rattle.laws.proofs.Cases.{by_cases, by_order, not_both, and_left, and_right, eqb_sym}
 use Rattle.paper.specs.declared.Row.{Row}
 use Rattle.paper.specs.declared.Run.{Run}
-use Rattle.paper.specs.declared.Held.{Held}
-use Rattle.paper.specs.declared.Held.TheVariants.{Idle, By}
-use Rattle.paper.specs.Duties.{same}
+use Rattle.std.specs.Prelude.{None, Some}
+use Rattle.paper.specs.Duties.{Held, same}
 use Rattle.paper.specs.Words.{run, stop, covers, run_at, held_in}
 use Rattle.paper.specs.Statements.{Has, Apart}
 
@@ -41,7 +40,7 @@ unfolding covers
 has_covers x r u e h = rw (eq-eqb x.row.0 r.0 e, le-leb x.first u h.0, lt-ltb u (stop x) h.1)
 
 -- one step of the search for the run
-pub held_yes : (x : Run) (xs : List Run) (r : Row) (u : ℕ) → covers x r u ≡ true → held_in (x ∷ xs) r u ≡ By x.duty
+pub held_yes : (x : Run) (xs : List Run) (r : Row) (u : ℕ) → covers x r u ≡ true → held_in (x ∷ xs) r u ≡ Some x.duty
 unfolding held_in
 held_yes x xs r u p = rw p
 
@@ -61,8 +60,8 @@ covering_other {xs} {r} {u} {k} v c h =
 
 -- a unit is idle, and then no run covers it, or a run covers it and its duty holds it
 pub held_cases : {P : Type 0} (xs : List Run) (r : Row) (u : ℕ)
-    → (held_in xs r u ≡ Idle → ((k : ℕ) → Covering xs r u k → ⊥) → P)
-    → ((k : ℕ) → Covering xs r u k → held_in xs r u ≡ By (run_at xs k).duty → P) → P
+    → (held_in xs r u ≡ None → ((k : ℕ) → Covering xs r u k → ⊥) → P)
+    → ((k : ℕ) → Covering xs r u k → held_in xs r u ≡ Some (run_at xs k).duty → P) → P
 unfolding held_in
 held_cases [] r u idle by = idle refl (λ k c. not-suc-le-zero c.below)
 held_cases (x ∷ xs) r u idle by =
@@ -92,53 +91,53 @@ covering_one xs r u a j k c d =
         (covers_has (run_at xs j) r u c.covering) (covers_has (run_at xs k) r u d.covering)
 
 -- and the duty of any run that covers a unit holds it
-pub held_by : (xs : List Run) (r : Row) (u : ℕ) → RowsApart xs → (k : ℕ) → Covering xs r u k → held_in xs r u ≡ By (run_at xs k).duty
+pub held_by : (xs : List Run) (r : Row) (u : ℕ) → RowsApart xs → (k : ℕ) → Covering xs r u k → held_in xs r u ≡ Some (run_at xs k).duty
 held_by xs r u a k c =
     held_cases xs r u (λ e n. absurd (n k c)) (λ j d e. rw (covering_one xs r u a k j c d) e)
 
 -- a row that no run is on is idle
-pub held_none : (xs : List Run) (r : Row) (u : ℕ) → ((k : ℕ) → k < length xs → (run_at xs k).row.0 ≡ r.0 → ⊥) → held_in xs r u ≡ Idle
+pub held_none : (xs : List Run) (r : Row) (u : ℕ) → ((k : ℕ) → k < length xs → (run_at xs k).row.0 ≡ r.0 → ⊥) → held_in xs r u ≡ None
 held_none xs r u n =
     held_cases xs r u (λ e h. e) (λ k c e. absurd (n k c.below (covers-row (run_at xs k) r u c.covering)))
 
 -- nothing is one with idle
-pub same_idle : (h : Held) → same h Idle ≡ false
+pub same_idle : (h : Held) → same h None ≡ false
 unfolding same
-same_idle Idle = refl
-same_idle (By i) = refl
+same_idle None = refl
+same_idle (Some i) = refl
 
 -- one duty holds both in either order
 pub same_sym : (g h : Held) → same g h ≡ same h g
 unfolding same
-same_sym Idle Idle = refl
-same_sym Idle (By j) = refl
-same_sym (By i) Idle = refl
-same_sym (By i) (By j) = eqb_sym i j
+same_sym None None = refl
+same_sym None (Some j) = refl
+same_sym (Some i) None = refl
+same_sym (Some i) (Some j) = eqb_sym i j
 
 -- ---- for a loop over the runs: what the runs from k on hold
 
 pub held_from_yes : (xs : List Run) (r : Row) (u k : ℕ) → k < length xs → covers (run_at xs k) r u ≡ true → held_in (drop k xs) r u
-    ≡ By (run_at xs k).duty
+    ≡ Some (run_at xs k).duty
 held_from_yes xs r u k h p = rw (drop-cons xs k (run 0 0 0 0) h) (held_yes (run_at xs k) (drop (suc k) xs) r u p)
 
 pub held_from_no : (xs : List Run) (r : Row) (u k : ℕ) → k < length xs → covers (run_at xs k) r u ≡ false → held_in (drop k xs) r u
     ≡ held_in (drop (k + 1) xs) r u
 held_from_no xs r u k h p = rw (add-one k, drop-cons xs k (run 0 0 0 0) h) (held_no (run_at xs k) (drop (suc k) xs) r u p)
 
-pub held_from_end : (xs : List Run) (r : Row) (u k : ℕ) → length xs ≤ k → held_in (drop k xs) r u ≡ Idle
+pub held_from_end : (xs : List Run) (r : Row) (u k : ℕ) → length xs ≤ k → held_in (drop k xs) r u ≡ None
 unfolding held_in
 held_from_end xs r u k h = rw (drop_of_length-le xs h)
 
 -- where no run covers it the unit is idle
-pub held_idle : (xs : List Run) (r : Row) (u : ℕ) → ((k : ℕ) → k < length xs → covers (run_at xs k) r u ≡ false) → held_in xs r u ≡ Idle
+pub held_idle : (xs : List Run) (r : Row) (u : ℕ) → ((k : ℕ) → k < length xs → covers (run_at xs k) r u ≡ false) → held_in xs r u ≡ None
 held_idle xs r u n = held_cases xs r u (λ e h. e) (λ k c e. not_both c.covering (n k c.below))
 
 -- where a duty holds it one of the duty's runs covers it
-pub held_some : (xs : List Run) (r : Row) (u i : ℕ) → held_in xs r u ≡ By i → (k : ℕ) × Covering xs r u k × ((run_at xs k).duty ≡ i)
+pub held_some : (xs : List Run) (r : Row) (u i : ℕ) → held_in xs r u ≡ Some i → (k : ℕ) × Covering xs r u k × ((run_at xs k).duty ≡ i)
 held_some xs r u i h = held_cases xs r u (λ e n. absurd (not_idle (sym e ∙ h))) (λ k c e. (k, c, same_duty (sym e ∙ h)))
   where
-    not_idle : Idle ≡ By i → ⊥
+    not_idle : None ≡ Some i → ⊥
     not_idle e = let z : ◌≡◌ {A = ℕ} 0 1 = cc in omega arith
 
-    same_duty : {a b : ℕ} → By a ≡ By b → a ≡ b
+    same_duty : {a b : ℕ} → Some a ≡ Some b → a ≡ b
     same_duty e = cc

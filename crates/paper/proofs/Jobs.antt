@@ -11,9 +11,8 @@ use lib.ListN.{length, get_or-eq_default}
 use Rattle.laws.proofs.Cases.{lt_or_le}
 use Rattle.laws.proofs.Quotients.{quotient_grows, quotient_by_blocks}
 use Rattle.paper.specs.declared.Duty.{Duty}
-use Rattle.paper.specs.declared.Held.{Held}
-use Rattle.paper.specs.declared.Held.TheVariants.{Idle, By}
-use Rattle.paper.specs.Duties.{duty, duty_at, job_start, Jobs, jobs_led, jobs_of}
+use Rattle.std.specs.Prelude.{None, Some}
+use Rattle.paper.specs.Duties.{Held, duty, duty_at, job_start, Jobs, jobs_led, jobs_of}
 use Rattle.paper.specs.Statements.{CommonDivisor}
 
 -- where all start at tick 0, the job of a tick is the one of which document 01 says that it has the tick
@@ -30,8 +29,8 @@ job_ticks ds i k q h =
 
 -- the job of what is held, at a tick
 abbrev pub job_of : Jobs → Held → ℕ → ℕ
-job_of jobs Idle k = 0
-job_of jobs (By i) k = jobs i k
+job_of jobs None k = 0
+job_of jobs (Some i) k = jobs i k
 
 -- inside a block of t ticks jobs stay, and from a block to the next they go on by one at most
 pub record Blockwise (t : ℕ) (jobs : Jobs) : Type 0 where

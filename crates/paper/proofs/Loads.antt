@@ -16,9 +16,8 @@ use Rattle.laws.specs.Sum.{sum_to}
 use Rattle.laws.proofs.Cases.{by_cases}
 use Rattle.laws.proofs.Sum.{sum_ext, sum_suc, sum_none, sum_one, sum_first, sum_plus, sum_swap, sum_blocks}
 use Rattle.paper.specs.declared.Engine.{Engine}
-use Rattle.paper.specs.declared.Held.{Held}
-use Rattle.paper.specs.declared.Held.TheVariants.{Idle, By}
-use Rattle.paper.specs.Duties.{engine, same, busy}
+use Rattle.std.specs.Prelude.{None, Some}
+use Rattle.paper.specs.Duties.{Held, engine, same, busy}
 use Rattle.paper.specs.Words.{row, Table, held_in}
 use Rattle.paper.specs.Rotation.{link, next_of, row_at}
 use Rattle.paper.specs.Walk.{walk, loads}
@@ -108,8 +107,8 @@ engine-loads t e b h =
 -- where one duty holds both there is no load, and where none does each busy unit is one
 fresh-same : (now before : Held) → fresh now before + one_if (same now before) ≡ one_if (busy now)
 unfolding same
-fresh-same Idle before = refl
-fresh-same (By i) before = by_cases (same (By i) before) (λ p. rw p) (λ p. rw p)
+fresh-same None before = refl
+fresh-same (Some i) before = by_cases (same (Some i) before) (λ p. rw p) (λ p. rw p)
 
 -- at the boundary after row r: a load, or carried, or nothing to run
 boundary-carries : (t : Table) (r : ℕ) → boundary t r + one_if (carries t r) ≡ opening t (next_of (link t) r)

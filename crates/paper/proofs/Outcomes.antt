@@ -10,8 +10,7 @@ use lib.ListN.{length}
 use Rattle.laws.specs.Choice.{pick}
 use Rattle.laws.specs.Lists.{over}
 use Rattle.paper.specs.declared.Refusal.{Refusal}
-use Rattle.paper.specs.declared.Written.{Written}
-use Rattle.paper.specs.declared.Written.TheVariants.{Length, Refused}
+use Rattle.std.specs.Prelude.{Result, Ok, Err}
 use Rattle.paper.specs.Outcome.{Outcome, refused, answer, and_then, refused_as, leaves, Writes}
 
 -- an answer is no refusal
@@ -59,15 +58,15 @@ refused_leaves n p buffer = refl
 -- ---- whatever writes
 
 -- what is left by an outcome is left by an equal one
-pub writes_same : {o o' : Outcome (List ℕ)} {r : Written} {before after : List ℕ} → o ≡ o' → Writes o' r before after
+pub writes_same : {o o' : Outcome (List ℕ)} {r : Result ℕ Refusal} {before after : List ℕ} → o ≡ o' → Writes o' r before after
     → Writes o r before after
 writes_same e w = rw e w
 
 -- a refusal leaves the bytes
-pub writes_refused : {o : Outcome (List ℕ)} (x : Refusal) (l : List ℕ) → o ≡ refused_as x → Writes o (Refused x) l l
+pub writes_refused : {o : Outcome (List ℕ)} (x : Refusal) (l : List ℕ) → o ≡ refused_as x → Writes o (Err x) l l
 writes_refused x l e = rw e (record { said = refl; left = refl })
 
 -- an answer is the length of what is laid over them
 pub writes_length : {o : Outcome (List ℕ)} {n : ℕ} (w l after : List ℕ) → o ≡ answer w → length w ≡ n → after ≡ over w l
-    → Writes o (Length n) l after
+    → Writes o (Ok n) l after
 writes_length w l after e f g = rw e (record { said = ap answer (sym f); left = g })

@@ -1,4 +1,4 @@
--- What is asked of an accepted table: the direct question, the dispatcher, the count of loads, and how their answers read. "The question,
+-- What is asked of an accepted table: the direct question, the dispatcher, the count of loads. "The question,
 -- the dispatcher and the count take table bytes and judge them first." What needs no more of a table than which rows are chained and how
 -- many engines there are takes these two.
 use Rattle.std.specs.Prelude.{ℕ, ◌+◌, ◌/◌, ◌≡◌, Bool, List, ltb, eqb}
@@ -7,19 +7,13 @@ use Rattle.laws.specs.Lists.{tab, same_list}
 use Rattle.paper.specs.declared.Row.{Row}
 use Rattle.paper.specs.declared.Engine.{Engine}
 use Rattle.paper.specs.declared.Reply.{Reply}
-use Rattle.paper.specs.declared.Answer.{Answer}
-use Rattle.paper.specs.declared.Answer.TheVariants.{Replies, Refused as NoReply}
 use Rattle.paper.specs.declared.State.{State}
 use Rattle.paper.specs.declared.Dispatched.{Dispatched}
-use Rattle.paper.specs.declared.RowTold.{RowTold}
-use Rattle.paper.specs.declared.RowTold.TheVariants.{At, Refused as NoRow}
-use Rattle.paper.specs.declared.Counted.{Counted}
-use Rattle.paper.specs.declared.Counted.TheVariants.{Loads, Refused as NoCount}
 use Rattle.paper.specs.Duties.{engine}
 use Rattle.paper.specs.Words.{row, row_numbers, Table}
 use Rattle.paper.specs.Rotation.{link, row_at}
 use Rattle.paper.specs.Walk.{walk, loads}
-use Rattle.paper.specs.Outcome.{Outcome, refused, answer, and_then, refused_as, verdict_as}
+use Rattle.paper.specs.Outcome.{Outcome, refused, answer, and_then, verdict_as}
 use Rattle.paper.specs.Limits.{most_engines, most_blocks, last_block}
 use Rattle.paper.specs.Rules.{accepted}
 
@@ -38,10 +32,6 @@ replied t e k = of_engine t.engines e (answer (reply_of t e k))
 
 abbrev pub question : List ℕ → Engine → ℕ → Outcome Reply
 question b e k = and_then (accepted b) (λ t. replied t e k)
-
-abbrev pub answer_as : Answer → Outcome Reply
-answer_as (Replies r) = answer r
-answer_as (NoReply x) = refused_as x
 
 -- ---- the dispatcher, of links c and m engines
 
@@ -94,10 +84,6 @@ row_told b s e = by_links b (λ c m. row_by c m s e)
 abbrev pub advanced : List ℕ → State → Outcome State
 advanced b s = by_links b (λ c m. next_by c m s)
 
-abbrev pub row_as : RowTold → Outcome Row
-row_as (At r) = answer r
-row_as (NoRow x) = refused_as x
-
 -- ---- the count
 
 -- 19 "too many blocks"; else the loads of the first n blocks
@@ -106,7 +92,3 @@ count_of t n = pick (ltb most_blocks n) (refused 19 0) (answer (loads t n))
 
 abbrev pub counted : List ℕ → ℕ → Outcome ℕ
 counted b n = and_then (accepted b) (λ t. count_of t n)
-
-abbrev pub count_as : Counted → Outcome ℕ
-count_as (Loads n) = answer n
-count_as (NoCount x) = refused_as x

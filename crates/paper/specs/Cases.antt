@@ -8,9 +8,8 @@ use Rattle.paper.specs.declared.Engine.{Engine}
 use Rattle.paper.specs.declared.Duty.{Duty}
 use Rattle.paper.specs.declared.Run.{Run}
 use Rattle.paper.specs.declared.Chain.{Chain}
-use Rattle.paper.specs.declared.Held.{Held}
-use Rattle.paper.specs.declared.Held.TheVariants.{Idle, By}
-use Rattle.paper.specs.Duties.{engine, duty}
+use Rattle.std.specs.Prelude.{None, Some}
+use Rattle.paper.specs.Duties.{Held, engine, duty}
 use Rattle.paper.specs.Words.{row, run, Table}
 use Rattle.paper.specs.Sa1.{slices}
 use Rattle.paper.specs.Rotation.{chain, link, row_at, chains}
@@ -131,7 +130,7 @@ p1 =
           ∷ chains_are (chain 0 2 ∷ [])
           ∷ loads_then 4 3
           ∷ prints p1_text
-          ∷ at_tick 5 (engine 0) (By 2) ∷ at_tick 5 (engine 1) (By 1) ∷ [];
+          ∷ at_tick 5 (engine 0) (Some 2) ∷ at_tick 5 (engine 1) (Some 1) ∷ [];
     }
 
 -- "Case P2 in full, 30 bytes"
@@ -176,7 +175,7 @@ p7 =
       facts =
           split 1 (2 ∷ 1 ∷ [])
           ∷ runs_are (run 0 0 0 1 ∷ run 0 1 1 2 ∷ run 1 1 0 1 ∷ run 1 2 1 1 ∷ [])
-          ∷ at_tick 2 (engine 1) Idle ∷ [];
+          ∷ at_tick 2 (engine 1) None ∷ [];
     }
 
 -- "(004, table 1)": "slices 7 4 5 4 2 7 2 9; chains 0-1 and 2-3; loads 10, then 8; 3,362 over 420 blocks"

@@ -1,11 +1,13 @@
 -- Document 01, "Words", what is served and what serves: duties with their jobs, engines, and what an engine has at a tick.
 -- Nothing here knows of blocks, rows or tables.
-use Rattle.std.specs.Prelude.{ℕ, ◌+◌, ◌*◌, ◌/◌, Bool, true, false, List, map, eqb, length, get_or}
+use Rattle.std.specs.Prelude.{ℕ, ◌+◌, ◌*◌, ◌/◌, Bool, true, false, Option, None, Some, List, map, eqb, length, get_or}
 use Rattle.laws.specs.Sum.{sum_to}
 use Rattle.paper.specs.declared.Engine.{Engine}
 use Rattle.paper.specs.declared.Duty.{Duty}
-use Rattle.paper.specs.declared.Held.{Held}
-use Rattle.paper.specs.declared.Held.TheVariants.{Idle, By}
+
+-- what holds a unit of a row, or an engine at a tick: nothing, or a duty by its number
+abbrev pub Held : Type 0
+Held = Option ℕ
 
 -- the engine of a number
 abbrev pub engine : ℕ → Engine
@@ -51,11 +53,11 @@ asked_in h ds = sum_to (length ds) (λ i. asks h (duty_at ds i))
 
 -- one duty holds both
 unfoldable pub same : Held → Held → Bool
-same Idle h = false
-same (By i) Idle = false
-same (By i) (By j) = eqb i j
+same None h = false
+same (Some i) None = false
+same (Some i) (Some j) = eqb i j
 
 -- some duty holds it
 abbrev pub busy : Held → Bool
-busy Idle = false
-busy (By i) = true
+busy None = false
+busy (Some i) = true

@@ -2,12 +2,11 @@
 use Rattle.std.specs.Prelude.{ℕ, ◌+◌, ◌*◌, ◌-◌, ◌^◌, ◌≡◌, List, [], ◌∷◌, ltb, length, get_or}
 use Rattle.laws.specs.Choice.{pick}
 use Rattle.laws.specs.Lists.{tab}
-use Rattle.paper.specs.declared.Held.{Held}
-use Rattle.paper.specs.declared.Held.TheVariants.{Idle, By}
+use Rattle.std.specs.Prelude.{None, Some}
 use Rattle.paper.specs.declared.Reading.{Reading}
 use Rattle.paper.specs.declared.Reply.{Reply}
 use Rattle.paper.specs.declared.State.{State}
-use Rattle.paper.specs.Duties.{engine}
+use Rattle.paper.specs.Duties.{Held, engine}
 use Rattle.paper.specs.Words.{row, row_numbers}
 use Rattle.paper.specs.Outcome.{Outcome, refused, answer, and_then, leaves}
 use Rattle.paper.specs.Limits.{most_engines, word_room, reading_room, reply_room, state_room, share_reading_room}
@@ -45,8 +44,8 @@ reading_entries rd = rd.block_length ∷ rd.engines ∷ rd.duties ∷ rd.runs �
 
 -- a reply: the row, and the duty or the mark for idle
 abbrev pub held_entry : Held → ℕ
-held_entry Idle = 2 ^ 64 - 1
-held_entry (By i) = i
+held_entry None = 2 ^ 64 - 1
+held_entry (Some i) = i
 
 abbrev pub reply_entries : Reply → List ℕ
 reply_entries r = r.row.0 ∷ held_entry r.held ∷ []

@@ -3,7 +3,7 @@
 use Rattle.std.specs.Prelude.{ℕ, ◌≡◌, List, [], ◌∷◌, get_or}
 use Rattle.paper.specs.declared.Duty.{Duty}
 use Rattle.paper.specs.declared.Run.{Run}
-use Rattle.paper.specs.declared.Held.TheVariants.{By}
+use Rattle.std.specs.Prelude.{Some}
 use Rattle.paper.specs.Duties.{engine, duty}
 use Rattle.paper.specs.Words.{run, Table}
 use Rattle.paper.specs.Rotation.{chain}
@@ -42,7 +42,7 @@ length_cases =
     (block_length 3 ∷ slices_are (2 ∷ 2 ∷ 2 ∷ [])
     ∷ runs_are (run 0 0 0 2 ∷ run 0 1 2 1 ∷ run 1 1 0 1 ∷ run 1 2 1 2 ∷ [])
     ∷ chains_are (chain 0 2 ∷ []) ∷ loads_then 4 3
-    ∷ at_tick 5 (engine 0) (By 2) ∷ at_tick 5 (engine 1) (By 1) ∷ [])
+    ∷ at_tick 5 (engine 0) (Some 2) ∷ at_tick 5 (engine 1) (Some 1) ∷ [])
     -- blocks of one tick, for duties that run all the time
     ∷ length_case 1 2 (duty 4 4 ∷ duty 6 6 ∷ [])
     (block_length 1 ∷ slices_are (1 ∷ 1 ∷ []) ∷ runs_are (run 0 0 0 1 ∷ run 1 1 0 1 ∷ []) ∷ loads_then 2 0 ∷ [])

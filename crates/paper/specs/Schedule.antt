@@ -3,9 +3,8 @@ use Rattle.std.specs.Prelude.{ℕ, zero, suc, ◌+◌, Bool, not, ◌&&◌}
 use Rattle.laws.specs.Choice.{one_if}
 use Rattle.laws.specs.Sum.{sum_to}
 use Rattle.paper.specs.declared.Engine.{Engine}
-use Rattle.paper.specs.declared.Held.{Held}
-use Rattle.paper.specs.declared.Held.TheVariants.{By}
-use Rattle.paper.specs.Duties.{engine, same, busy}
+use Rattle.std.specs.Prelude.{Some}
+use Rattle.paper.specs.Duties.{Held, engine, same, busy}
 
 -- idle or a duty, for each engine and tick
 abbrev pub Schedule : Type 0
@@ -13,7 +12,7 @@ Schedule = Engine → ℕ → Held
 
 -- on how many of m engines duty i runs at tick k
 unfoldable pub given : ℕ → Schedule → ℕ → ℕ → ℕ
-given m s i k = sum_to m (λ e. one_if (same (s (engine e) k) (By i)))
+given m s i k = sum_to m (λ e. one_if (same (s (engine e) k) (Some i)))
 
 -- the service that duty i gets in the n ticks from k on
 unfoldable pub served : ℕ → Schedule → ℕ → ℕ → ℕ → ℕ

@@ -6,9 +6,8 @@ use Rattle.laws.specs.Sum.{sum_to}
 use Rattle.laws.specs.Lists.{tab, Each}
 use Rattle.paper.specs.declared.Engine.{Engine}
 use Rattle.paper.specs.declared.Duty.{Duty}
-use Rattle.paper.specs.declared.Held.{Held}
-use Rattle.paper.specs.declared.Held.TheVariants.{Idle, By}
-use Rattle.paper.specs.Duties.{engine, duty}
+use Rattle.std.specs.Prelude.{None, Some}
+use Rattle.paper.specs.Duties.{Held, engine, duty}
 use Rattle.paper.specs.Words.{block_length_of}
 use Rattle.paper.specs.Outcome.{refused, answer}
 use Rattle.paper.specs.Wanted.{Wanted, wanted_of}
@@ -119,9 +118,9 @@ table3_units =
 -- .. and who runs at some ticks of block 1, and of the block that repeats it
 abbrev pub table3_ticks : List ShareFact
 table3_ticks =
-    shared_tick 15 (engine 0) (By 0) ∷ shared_tick 16 (engine 0) (By 1) ∷ shared_tick 10 (engine 1) (By 1)
-    ∷ shared_tick 12 (engine 2) (By 4)
-    ∷ shared_tick 72 (engine 2) (By 4) ∷ []
+    shared_tick 15 (engine 0) (Some 0) ∷ shared_tick 16 (engine 0) (Some 1) ∷ shared_tick 10 (engine 1) (Some 1)
+    ∷ shared_tick 12 (engine 2) (Some 4)
+    ∷ shared_tick 72 (engine 2) (Some 4) ∷ []
 
 -- "An example where the conditions of Theorem 3.3 is satisfied"
 abbrev pub table3 : ShareCase
@@ -144,7 +143,7 @@ p5_shared =
           shared_in 2 6
           ∷ allotted 0 (1 ∷ 1 ∷ []) ∷ allotted 1 (0 ∷ 1 ∷ []) ∷ allotted 2 (1 ∷ 0 ∷ [])
           ∷ allotted 3 (0 ∷ 1 ∷ []) ∷ allotted 4 (1 ∷ 1 ∷ []) ∷ allotted 5 (0 ∷ 0 ∷ [])
-          ∷ shared_tick 0 (engine 0) (By 0) ∷ shared_tick 1 (engine 0) (By 1) ∷ shared_tick 0 (engine 1) Idle ∷ shared_loads 6 6 ∷ [];
+          ∷ shared_tick 0 (engine 0) (Some 0) ∷ shared_tick 1 (engine 0) (Some 1) ∷ shared_tick 0 (engine 1) None ∷ shared_loads 6 6 ∷ [];
     }
 
 -- the smallest set with 23, which also meets the condition of theorem 3.4: duty 1 was given a unit ahead, needs -1/2 in block 2, and no

@@ -1,23 +1,19 @@
 -- Document 02, request 3: plans for duties whose share of a block is not whole, by SA2. The schedule of such a plan, its refusals, the list
--- of allotments and the direct question, and how their answers read.
-use Rattle.std.specs.Prelude.{ℕ, ◌+◌, ◌*◌, ◌-◌, ◌/◌, ◌%◌, ◌≡◌, Bool, not, ◌&&◌, ◌||◌, List, ltb, eqb, get_or}
+-- of allotments and the direct question.
+use Rattle.std.specs.Prelude.{ℕ, ◌+◌, ◌*◌, ◌-◌, ◌/◌, ◌%◌, ◌≡◌, Bool, not, ◌&&◌, ◌||◌, Result, List, ltb, eqb, get_or}
 use Rattle.laws.specs.Choice.{pick}
 use Rattle.laws.specs.Search.{first, any}
 use Rattle.laws.specs.Sum.{sum_to}
 use Rattle.laws.specs.Divisor.{lcm_of}
 use Rattle.laws.specs.Lists.{tab, flat, sum_of}
 use Rattle.paper.specs.declared.Engine.{Engine}
-use Rattle.paper.specs.declared.Held.{Held}
+use Rattle.paper.specs.declared.Refusal.{Refusal}
 use Rattle.paper.specs.declared.ShareReading.{ShareReading}
-use Rattle.paper.specs.declared.SharesTold.{SharesTold}
-use Rattle.paper.specs.declared.SharesTold.TheVariants.{Given, Refused as NotGiven}
-use Rattle.paper.specs.declared.ShareAnswer.{ShareAnswer}
-use Rattle.paper.specs.declared.ShareAnswer.TheVariants.{Holds, Refused as NoAnswer}
-use Rattle.paper.specs.Duties.{periods_of, asked_in}
+use Rattle.paper.specs.Duties.{Held, periods_of, asked_in}
 use Rattle.paper.specs.Words.{row, held_in, block_length_of}
 use Rattle.paper.specs.Schedule.{Schedule, loads_in}
 use Rattle.paper.specs.Limits.{most_share_blocks}
-use Rattle.paper.specs.Outcome.{Outcome, refused, answer, and_then, refused_as, leaves}
+use Rattle.paper.specs.Outcome.{Outcome, refused, answer, and_then, outcome_of, leaves}
 use Rattle.paper.specs.Bytes.{within}
 use Rattle.paper.specs.Wanted.{Wanted, taken}
 use Rattle.paper.specs.Answers.{of_engine}
@@ -103,13 +99,9 @@ share_plan x room = and_then (and_then (shared x) (roomy room)) steady
 abbrev pub reading_of_shares : Sharing → ShareReading
 reading_of_shares s = record { entries = entries_needed s; block_length = s.ticks; blocks = blocks s }
 
-abbrev pub shares_as : SharesTold → Outcome ShareReading
-shares_as (Given rd) = answer rd
-shares_as (NotGiven x) = refused_as x
-
 -- the answer r, and the lent list before and after: "The output is untouched in every case" of a refusal
-pub record GivesShares (o : Outcome Sharing) (r : SharesTold) (before after : List ℕ) : Type 0 where
-  pub said : shares_as r ≡ and_then o (λ s. answer (reading_of_shares s))
+pub record GivesShares (o : Outcome Sharing) (r : Result ShareReading Refusal) (before after : List ℕ) : Type 0 where
+  pub said : outcome_of r ≡ and_then o (λ s. answer (reading_of_shares s))
   pub left : after ≡ leaves (and_then o (λ s. answer (share_list s))) before
 
 -- ---- the direct question
@@ -118,7 +110,3 @@ pub record GivesShares (o : Outcome Sharing) (r : SharesTold) (before after : Li
 abbrev pub share_question : Wanted → Engine → ℕ → Outcome Held
 share_question x e k =
     and_then (and_then (shared x) steady) (λ s. of_engine s.engines e (answer (share_schedule s e k)))
-
-abbrev pub share_answer_as : ShareAnswer → Outcome Held
-share_answer_as (Holds h) = answer h
-share_answer_as (NoAnswer x) = refused_as x

@@ -7,17 +7,15 @@ use Rattle.laws.specs.Lists.{tab, flat, same_list}
 use Rattle.paper.specs.declared.Duty.{Duty}
 use Rattle.paper.specs.declared.Run.{Run}
 use Rattle.paper.specs.declared.Chain.{Chain}
-use Rattle.paper.specs.declared.Verdict.TheVariants.{Done, Refused}
 use Rattle.paper.specs.declared.Input.{Input}
-use Rattle.paper.specs.declared.InputRead.{InputRead}
 use Rattle.paper.specs.Duties.{duty, duty_at}
 use Rattle.paper.specs.Words.{Table}
 use Rattle.paper.specs.Rotation.{chains}
 use Rattle.paper.specs.Walk.{loads}
-use Rattle.paper.specs.Outcome.{Outcome, refused, answer, and_then, refusal}
+use Rattle.paper.specs.Outcome.{Outcome, refused, answer, and_then}
 use Rattle.paper.specs.Limits.{most_duties, most_input, most_digits, default_engines, word_digits}
 use Rattle.paper.specs.Bytes.{within}
-use Rattle.paper.specs.Wanted.{Wanted, wanted, wanted_of}
+use Rattle.paper.specs.Wanted.{Wanted, wanted_of}
 use Rattle.paper.specs.Builder.{plan, fitted}
 use Rattle.paper.specs.Rules.{accepted}
 
@@ -107,16 +105,15 @@ input_of (line c ended ls) =
 unfoldable pub input : List ℕ → Outcome Wanted
 input b = pick (ltb most_input (length b)) (refused 9 0) (input_of (lines_of b))
 
--- what reading it hands back: two lists with room for every duty, 0 past the last; a refusal holds nothing but 0
+-- what reading it hands back: two lists with room for every duty, 0 past the last; a refusal holds none
 abbrev pub roomy : List ℕ → List ℕ
 roomy l = tab most_duties (λ k. get_or l k 0)
 
 abbrev pub input_for : Wanted → Input
 input_for x = record { engines = x.engines; duties = length x.services; services = roomy x.services; periods = roomy x.periods }
 
-abbrev pub input_read : Outcome Wanted → InputRead
-input_read (refused n p) = record { verdict = Refused (refusal n p); input = input_for (wanted 0 [] []) }
-input_read (answer x) = record { verdict = Done; input = input_for x }
+abbrev pub input_read : Outcome Wanted → Outcome Input
+input_read o = and_then o (λ x. answer (input_for x))
 
 -- ---- printing
 

@@ -7,9 +7,8 @@ use Rattle.laws.specs.Divisor.{divides, gcd_of}
 use Rattle.paper.specs.declared.Row.{Row}
 use Rattle.paper.specs.declared.Duty.{Duty}
 use Rattle.paper.specs.declared.Run.{Run}
-use Rattle.paper.specs.declared.Held.{Held}
-use Rattle.paper.specs.declared.Held.TheVariants.{Idle, By}
-use Rattle.paper.specs.Duties.{duty_at, periods_of}
+use Rattle.std.specs.Prelude.{None, Some}
+use Rattle.paper.specs.Duties.{Held, duty_at, periods_of}
 
 -- the row of a number
 abbrev pub row : ℕ → Row
@@ -61,5 +60,5 @@ run_at xs k = get_or xs k (run 0 0 0 0)
 
 -- who holds unit u of row r: "finding the run that holds a unit stops at the first that does"
 unfoldable pub held_in : List Run → Row → ℕ → Held
-held_in [] r u = Idle
-held_in (x ∷ xs) r u = pick (covers x r u) (By x.duty) (held_in xs r u)
+held_in [] r u = None
+held_in (x ∷ xs) r u = pick (covers x r u) (Some x.duty) (held_in xs r u)

@@ -3,34 +3,38 @@
 
 #![tactic(auto)]
 
+ghost use Rattle.std.specs.Prelude.{◌≡◌};
+ghost use Rattle.paper.specs.declared.Refusal.TheVariants.{Table};
+ghost use Rattle.paper.specs.Outcome.{fault_number, fault_place, number_of, place_of};
+
 pub mod limits;
 
 use limits::{MOST_DUTIES, MOST_ENGINES};
 
 // A line of the plan for one block.
-#[derive(Clone, Copy)]
+#[derive(Clone, Copy, Debug, PartialEq, Eq)]
 pub struct Row(pub u32);
 
 // A packet engine, the hardware.
-#[derive(Clone, Copy)]
+#[derive(Clone, Copy, Debug, PartialEq, Eq)]
 pub struct Engine(pub u32);
 
 // A maximal string of chained rows: the first of them, and how many there are.
-#[derive(Clone, Copy)]
+#[derive(Clone, Copy, Debug, PartialEq, Eq)]
 pub struct Chain {
     pub first: Row,
     pub length: u32,
 }
 
 // A duty: `service` ticks in each period of `period` ticks.
-#[derive(Clone, Copy)]
+#[derive(Clone, Copy, Debug, PartialEq, Eq)]
 pub struct Duty {
     pub service: u32,
     pub period: u32,
 }
 
 // A stretch of units on one row, given to one duty.
-#[derive(Clone, Copy)]
+#[derive(Clone, Copy, Debug, PartialEq, Eq)]
 pub struct Run {
     pub row: Row,
     pub duty: u32,
@@ -39,14 +43,10 @@ pub struct Run {
 }
 
 // What holds a unit of a row, or an engine at a tick: nothing, or a duty by its number.
-#[derive(Clone, Copy)]
-pub enum Held {
-    Idle,
-    By(u32),
-}
+pub type Held = Option<u32>;
 
 // What a judge reads off an accepted table: the block length, and how many engines, duties and runs there are.
-#[derive(Clone, Copy)]
+#[derive(Clone, Copy, Debug, PartialEq, Eq)]
 pub struct Reading {
     pub block_length: u32,
     pub engines: u32,
@@ -55,7 +55,7 @@ pub struct Reading {
 }
 
 // Why a table is no good, the faults 10 to 17, each with the record's offset, the duty or the run.
-#[derive(Clone, Copy)]
+#[derive(Clone, Copy, Debug, PartialEq, Eq)]
 pub enum Fault {
     Form(usize),
     BlockLength,
@@ -67,79 +67,135 @@ pub enum Fault {
     Service(usize),
 }
 
-// A judge's answer.
-#[derive(Clone, Copy)]
-pub enum Judged {
-    Accepted(Reading),
-    Bad(Fault),
+impl Fault {
+    // A fault's number.
+    pub fn number(self) -> u32
+        ensures { result ≡ fault_number self }
+    {
+        match self {
+            Fault::Form(_) => 10,
+            Fault::BlockLength => 11,
+            Fault::Slice(_) => 12,
+            Fault::Order(_) => 13,
+            Fault::Overlap(_) => 14,
+            Fault::Joint(_) => 15,
+            Fault::Twice(_) => 16,
+            Fault::Service(_) => 17,
+        }
+    }
+
+    // A fault's place, 0 where none is named.
+    pub fn place(self) -> usize
+        ensures { result ≡ fault_place self }
+    {
+        match self {
+            Fault::BlockLength => 0,
+            Fault::Form(at) => at,
+            Fault::Slice(d) | Fault::Service(d) => d,
+            Fault::Order(k) | Fault::Overlap(k) | Fault::Joint(k) | Fault::Twice(k) => k,
+        }
+    }
 }
 
-// Why a call is refused: document 01's number, and the place that goes with it, 0 where none is named.
-#[derive(Clone, Copy)]
-pub struct Refusal {
-    pub number: u32,
-    pub place: usize,
+// Why a call is refused, in the order of the numbers: 1 to 5 of what is asked for, 6 to 8 of a plan of slices, 9 of a text, 10 to 17 of a
+// table, 18 to 21 of what is asked of one, 22 and 23 of a plan of shares, 24 of a wanted block length, 255 of a lent list of the face.
+#[derive(Clone, Copy, Debug, PartialEq, Eq)]
+pub enum Refusal {
+    Engines,
+    Lengths,
+    Duties,
+    Period(usize),
+    Service(usize),
+    PartSlice(usize),
+    Overload,
+    Room(usize),
+    Input(usize),
+    Table(Fault),
+    NoEngine,
+    ManyBlocks,
+    StrangeState,
+    LastBlock,
+    ManyShareBlocks,
+    ShareBlock(usize),
+    BlockLength,
+    Lent(usize),
 }
 
-// The answer of whatever writes: how much it wrote, or why it wrote nothing.
-#[derive(Clone, Copy)]
-pub enum Written {
-    Length(usize),
-    Refused(Refusal),
+impl Refusal {
+    // The number that document 01 gives it.
+    pub fn number(self) -> u32
+        ensures { result ≡ number_of self }
+    {
+        match self {
+            Refusal::Engines => 1,
+            Refusal::Lengths => 2,
+            Refusal::Duties => 3,
+            Refusal::Period(_) => 4,
+            Refusal::Service(_) => 5,
+            Refusal::PartSlice(_) => 6,
+            Refusal::Overload => 7,
+            Refusal::Room(_) => 8,
+            Refusal::Input(_) => 9,
+            Refusal::Table(fault) => fault.number(),
+            Refusal::NoEngine => 18,
+            Refusal::ManyBlocks => 19,
+            Refusal::StrangeState => 20,
+            Refusal::LastBlock => 21,
+            Refusal::ManyShareBlocks => 22,
+            Refusal::ShareBlock(_) => 23,
+            Refusal::BlockLength => 24,
+            Refusal::Lent(_) => 255,
+        }
+    }
+
+    // The place that goes with it, 0 where none is named.
+    pub fn place(self) -> usize
+        ensures { result ≡ place_of self }
+    {
+        match self {
+            Refusal::Period(d) | Refusal::Service(d) | Refusal::PartSlice(d) => d,
+            Refusal::Room(needed) | Refusal::Lent(needed) => needed,
+            Refusal::Input(line) => line,
+            Refusal::Table(fault) => fault.place(),
+            Refusal::ShareBlock(block) => block,
+            _ => 0,
+        }
+    }
 }
 
-// Whether there is something beside it to hand back; else why not. It stands where an answer holds an array, which an enum cannot.
-#[derive(Clone, Copy)]
-pub enum Verdict {
-    Done,
-    Refused(Refusal),
+// A table's fault as a refusal, which `?` makes of it.
+impl From<Fault> for Refusal {
+    ghost from_gives = { λ fault r. r ≡ Table fault };
+
+    fn from(fault: Fault) -> Refusal {
+        Refusal::Table(fault)
+    }
 }
 
 // What an engine runs at a tick, and on which row.
-#[derive(Clone, Copy)]
+#[derive(Clone, Copy, Debug, PartialEq, Eq)]
 pub struct Reply {
     pub held: Held,
     pub row: Row,
 }
 
-// The question's answer.
-#[derive(Clone, Copy)]
-pub enum Answer {
-    Replies(Reply),
-    Refused(Refusal),
-}
-
 // A dispatcher's state: a block, and the row of each engine in it, 0 past the last engine.
-#[derive(Clone, Copy)]
+#[derive(Clone, Copy, Debug, PartialEq, Eq)]
 pub struct State {
     pub block: u64,
     pub rows: [Row; MOST_ENGINES],
 }
 
 // What a dispatcher hands back: a verdict, and the state. A refusal holds block 0 and rows all 0.
-#[derive(Clone, Copy)]
+#[derive(Clone, Copy, Debug, PartialEq, Eq)]
 pub struct Dispatched {
-    pub verdict: Verdict,
+    pub verdict: Result<(), Refusal>,
     pub state: State,
-}
-
-// A dispatcher's answer to the row of an engine.
-#[derive(Clone, Copy)]
-pub enum RowTold {
-    At(Row),
-    Refused(Refusal),
-}
-
-// The answer of the count of loads.
-#[derive(Clone, Copy)]
-pub enum Counted {
-    Loads(u64),
-    Refused(Refusal),
 }
 
 // What stands in the plan program's input: the engines, how many duties, and the service and the period of each; past the last duty
 // they are 0.
-#[derive(Clone, Copy)]
+#[derive(Clone, Copy, Debug, PartialEq, Eq)]
 pub struct Input {
     pub engines: u32,
     pub duties: u32,
@@ -147,32 +203,11 @@ pub struct Input {
     pub periods: [u32; MOST_DUTIES],
 }
 
-// What reading the program's input hands back: a verdict, and the input. A refusal holds an input that is all 0.
-#[derive(Clone, Copy)]
-pub struct InputRead {
-    pub verdict: Verdict,
-    pub input: Input,
-}
-
 // What the builder of shares tells of the list that it wrote: its entries, the block length, and the blocks up to the periods' least common
 // multiple.
-#[derive(Clone, Copy)]
+#[derive(Clone, Copy, Debug, PartialEq, Eq)]
 pub struct ShareReading {
     pub entries: usize,
     pub block_length: u32,
     pub blocks: u32,
-}
-
-// The answer of the builder of shares.
-#[derive(Clone, Copy)]
-pub enum SharesTold {
-    Given(ShareReading),
-    Refused(Refusal),
-}
-
-// The answer of the question to a plan of shares. An engine keeps its row there, so no row is told.
-#[derive(Clone, Copy)]
-pub enum ShareAnswer {
-    Holds(Held),
-    Refused(Refusal),
 }

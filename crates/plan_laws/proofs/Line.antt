@@ -20,9 +20,8 @@ use Rattle.laws.proofs.Cases.{by_cases, lt_or_le, both_ways}
 use Rattle.laws.proofs.Each.{Each, each_at}
 use Rattle.laws.proofs.Decides.{spans, spans_decides, spans_not}
 use Rattle.laws.proofs.Sum.{sum_ext, sum_swap, sum_blocks, count_once, count_stretch}
-use Rattle.paper.specs.declared.Held.{Held}
-use Rattle.paper.specs.declared.Held.TheVariants.{Idle, By}
-use Rattle.paper.specs.Duties.{same}
+use Rattle.std.specs.Prelude.{None, Some}
+use Rattle.paper.specs.Duties.{Held, same}
 use Rattle.paper.specs.Words.{row, run, covers, held_in}
 use Rattle.paper.specs.Sa1.{lay}
 use Rattle.paper.proofs.Holding.{covers-row, covers_has, has_covers}
@@ -30,8 +29,8 @@ use Rattle.plan_laws.proofs.Sa1.{lay-cases}
 
 -- who has place p, where the slices, the first of them duty i's, are laid one after the other from place s on
 unfoldable pub on_line : List ℕ → (i s p : ℕ) → Held
-on_line [] i s p = Idle
-on_line (n ∷ ns) i s p = pick (spans s n p) (By i) (on_line ns (i + 1) (s + n) p)
+on_line [] i s p = None
+on_line (n ∷ ns) i s p = pick (spans s n p) (Some i) (on_line ns (i + 1) (s + n) p)
 
 -- where slice k starts, if the first starts at 0: after those before it
 abbrev pub start_of : List ℕ → ℕ → ℕ
@@ -78,7 +77,7 @@ line t (n ∷ ns) i r u e v a b h =
     (joined (r * t + u) (t - u) ((r + 1) * t + 0) u' n (e * t + v) _ _ (omega arith) (omega arith))))
 
 -- a place of the duties from j on is none of an earlier duty's
-later_not : (ns : List ℕ) (i j s p : ℕ) → i < j → same (on_line ns j s p) (By i) ≡ false
+later_not : (ns : List ℕ) (i j s p : ℕ) → i < j → same (on_line ns j s p) (Some i) ≡ false
 unfolding on_line same
 later_not [] i j s p l = refl
 later_not (n ∷ ns) i j s p l =
@@ -86,7 +85,7 @@ later_not (n ∷ ns) i j s p l =
 
 -- a duty has the places of its own stretch, and no others
 pub line_at :
-    (ns : List ℕ) (i s p k : ℕ) → k < length ns → same (on_line ns i s p) (By (i + k)) ≡ spans (s + start_of ns k) (get_or ns k 0) p
+    (ns : List ℕ) (i s p k : ℕ) → k < length ns → same (on_line ns i s p) (Some (i + k)) ≡ spans (s + start_of ns k) (get_or ns k 0) p
 unfolding on_line same sum_of
 line_at [] i s p k l = absurd (not-suc-le-zero l)
 line_at (n ∷ ns) i s p zero l =
@@ -128,11 +127,12 @@ start-within (n ∷ ns) (suc k) l = omega (arith, start-within ns k (le_of_suc-l
 
 -- on how many of m rows duty k holds the unit u, where the slices are laid from row 0 and unit 0 on
 abbrev pub rows_held : (t m : ℕ) → List ℕ → (k u : ℕ) → ℕ
-rows_held t m ns k u = sum_to m (λ e. one_if (same (held_in (lay t ns 0 0 0) (row e) u) (By k)))
+rows_held t m ns k u = sum_to m (λ e. one_if (same (held_in (lay t ns 0 0 0) (row e) u) (Some k)))
 
 module _ (t : ℕ) (ns : List ℕ) (h : Each (λ n. n ≤ t) ns) (k : ℕ) (l : k < length ns) where
   -- duty k holds a unit of a row where its stretch has the unit's place
-  pub laid_at_lem : (e u : ℕ) → u < t → same (held_in (lay t ns 0 0 0) (row e) u) (By k) ≡ spans (start_of ns k) (get_or ns k 0) (e * t + u)
+  pub laid_at_lem : (e u : ℕ) → u < t → same (held_in (lay t ns 0 0 0) (row e) u) (Some k)
+      ≡ spans (start_of ns k) (get_or ns k 0) (e * t + u)
   laid_at_lem e u a =
       rw (line t ns 0 0 0 e u (omega arith) a h, zero-mul t)
       (rw (zero-add k, zero-add (start_of ns k)) at (line_at ns 0 0 (e * t + u) k l))
@@ -140,7 +140,7 @@ module _ (t : ℕ) (ns : List ℕ) (h : Each (λ n. n ≤ t) ns) (k : ℕ) (l : 
   -- so it holds it on as many rows as its stretch has it
   laid_rows : (m u : ℕ) → u < t → rows_held t m ns k u ≡ rows_spanned t m (start_of ns k) (get_or ns k 0) u
   laid_rows m u a =
-      sum_ext m (λ e. one_if (same (held_in (lay t ns 0 0 0) (row e) u) (By k)))
+      sum_ext m (λ e. one_if (same (held_in (lay t ns 0 0 0) (row e) u) (Some k)))
       (λ e. one_if (spans (start_of ns k) (get_or ns k 0) (e * t + u))) (λ e b. ap one_if (laid_at_lem e u a))
 
   -- that is on one row at most, ..
@@ -157,16 +157,16 @@ module _ (t : ℕ) (ns : List ℕ) (h : Each (λ n. n ≤ t) ns) (k : ℕ) (l : 
 
 -- the duties from i on, by whether the place is before the end of duty i's stretch
 module _ (n : ℕ) (ns : List ℕ) (i s p : ℕ) (a : s ≤ p) where
-  line_step : on_line (n ∷ ns) i s p ≡ pick (spans s n p) (By i) (on_line ns (i + 1) (s + n) p)
+  line_step : on_line (n ∷ ns) i s p ≡ pick (spans s n p) (Some i) (on_line ns (i + 1) (s + n) p)
   unfolding on_line
   line_step = refl
 
-  pub first_has : p < s + n → on_line (n ∷ ns) i s p ≡ By i
+  pub first_has : p < s + n → on_line (n ∷ ns) i s p ≡ Some i
   first_has h = line_step ∙ rw (le-leb s p a, lt-ltb p (s + n) h)
 
   pub first_not : s + n ≤ p → on_line (n ∷ ns) i s p ≡ on_line ns (i + 1) (s + n) p
   first_not h = line_step ∙ rw (le-leb s p a, le-ltb p (s + n) h)
 
-pub none_has : (ns : List ℕ) (i s p : ℕ) → length ns ≤ i → on_line (drop i ns) i s p ≡ Idle
+pub none_has : (ns : List ℕ) (i s p : ℕ) → length ns ≤ i → on_line (drop i ns) i s p ≡ None
 unfolding on_line
 none_has ns i s p h = rw (drop_of_length-le ns h)

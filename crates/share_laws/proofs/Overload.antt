@@ -6,7 +6,6 @@ use mathlib.Core.Path.{◌≡◌, sym}
 use native.Mathlib.Nat.{mul-le-mul_right}
 use native.Mathlib.Omega.{arith}
 use Rattle.paper.specs.declared.Engine.{Engine}
-use Rattle.paper.specs.declared.Held.{Held}
 use Rattle.paper.specs.Capacity.{MeetsDuties, Possible}
 use Rattle.paper.specs.Outcome.{refused, answer}
 use Rattle.paper.specs.Wanted.{Wanted, duty_set}
@@ -20,6 +19,7 @@ use Rattle.share_laws.proofs.SharesWhen.{WhenShared, not_taken, too_many_blocks,
 use Rattle.share_laws.proofs.SharesWhen.{WhenShares, not_shared_lem, list_short, block_bad, shares_given, shares_when}
 use Rattle.share_laws.proofs.SharesWhen.{WhenAsked, nothing_shared, block_fails_lem, engine_out, answered_so, asked_when}
 use Rattle.share_laws.proofs.Served.{Serves, plan-told, plan-serves, question-serves}
+use Rattle.paper.specs.Duties.{Held}
 
 -- ---- 7
 

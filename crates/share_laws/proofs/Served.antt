@@ -13,8 +13,7 @@ use lib.ListN.{length}
 use Rattle.laws.specs.Sum.{sum_to}
 use Rattle.laws.proofs.Sum.{sum_ext, sum_blocks}
 use Rattle.paper.specs.declared.Engine.{Engine}
-use Rattle.paper.specs.declared.Held.{Held}
-use Rattle.paper.specs.Duties.{job_start}
+use Rattle.paper.specs.Duties.{Held, job_start}
 use Rattle.paper.specs.Schedule.{given, served}
 use Rattle.paper.specs.Outcome.{answer}
 use Rattle.paper.specs.Wanted.{Wanted}

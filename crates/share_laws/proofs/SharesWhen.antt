@@ -12,8 +12,7 @@ use Rattle.laws.specs.Choice.{pick}
 use Rattle.laws.proofs.Cases.{by_cases}
 use Rattle.paper.specs.declared.Duty.{Duty}
 use Rattle.paper.specs.declared.Engine.{Engine}
-use Rattle.paper.specs.declared.Held.{Held}
-use Rattle.paper.specs.Duties.{asked_in}
+use Rattle.paper.specs.Duties.{Held, asked_in}
 use Rattle.paper.specs.Words.{block_length_of}
 use Rattle.paper.specs.Outcome.{Outcome, refused, answer, and_then}
 use Rattle.paper.specs.Wanted.{Wanted, duty_set, taken}

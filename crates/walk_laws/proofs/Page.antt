@@ -12,7 +12,7 @@ use lib.ListN.{length}
 use Rattle.laws.specs.Choice.{pick, one_if}
 use Rattle.laws.specs.Sum.{sum_to}
 use Rattle.paper.specs.declared.Engine.{Engine}
-use Rattle.paper.specs.declared.Held.TheVariants.{By}
+use Rattle.std.specs.Prelude.{Some}
 use Rattle.paper.specs.Limits.{Width}
 use Rattle.paper.specs.Duties.{engine, job_start, duty_at, same}
 use Rattle.paper.specs.Words.{row, Table, held_in}
@@ -87,7 +87,7 @@ module _ (w : Width) (t : Table) (g : Ranged w t) where
     pub not_twice : (i k : ℕ) → given t.engines (walk t) i k ≤ 1
     not_twice = never_twice t g o
 
-    pub same_engine : (i k e d : ℕ) → walk t (engine e) k ≡ By i → walk t (engine d) k ≡ By i → e ≡ d
+    pub same_engine : (i k e d : ℕ) → walk t (engine e) k ≡ Some i → walk t (engine d) k ≡ Some i → e ≡ d
     same_engine = one_engine t (meets_serving g o)
 
     -- so it is a schedule that meets the duties on the table's engines

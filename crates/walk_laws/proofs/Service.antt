@@ -17,7 +17,7 @@ use Rattle.laws.specs.Sum.{sum_to}
 use Rattle.laws.proofs.Cases.{by_cases}
 use Rattle.laws.proofs.Sum.{sum_ext, sum_const, sum_blocks}
 use Rattle.paper.specs.declared.Duty.{Duty}
-use Rattle.paper.specs.declared.Held.TheVariants.{By}
+use Rattle.std.specs.Prelude.{Some}
 use Rattle.paper.specs.Duties.{engine, job_start, duty_at, same}
 use Rattle.paper.specs.Words.{row, slice, Table, run_at, held_in}
 use Rattle.paper.specs.Rotation.{link, row_at}
@@ -57,9 +57,9 @@ meets_serving {w} {t} r m =
 
 -- on a unit of any block a duty runs on as many engines as it has runs there
 pub engines_unit : (t : Table) → Serving t → (i b u : ℕ) → sum_to t.engines
-    (λ e. one_if (same (held_in t.runs (row_at (link t) b (engine e)) u) (By i))) ≡ on_unit t.runs i u
+    (λ e. one_if (same (held_in t.runs (row_at (link t) b (engine e)) u) (Some i))) ≡ on_unit t.runs i u
 engines_unit t l i b u =
-    row_sum (link t) t.engines (rows_end t l.closed) b (λ r. one_if (same (held_in t.runs (row r) u) (By i)))
+    row_sum (link t) t.engines (rows_end t l.closed) b (λ r. one_if (same (held_in t.runs (row r) u) (Some i)))
     ∙ rows_unit t.engines t.runs l.apart_in_row l.rows_below i u
 
 -- the same of a tick
@@ -68,7 +68,7 @@ unfolding given walk
 given_unit t l i k = engines_unit t l i (k / t.ticks) (k % t.ticks)
 
 -- exclusion: two engines that run one duty in one tick are one engine
-pub one_engine : (t : Table) → Serving t → (i k e d : ℕ) → walk t (engine e) k ≡ By i → walk t (engine d) k ≡ By i → e ≡ d
+pub one_engine : (t : Table) → Serving t → (i k e d : ℕ) → walk t (engine e) k ≡ Some i → walk t (engine d) k ≡ Some i → e ≡ d
 unfolding walk
 one_engine t l i k e d p q =
     let b = k / t.ticks in

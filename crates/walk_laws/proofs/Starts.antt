@@ -17,7 +17,7 @@ use Rattle.laws.specs.Sum.{sum_to}
 use Rattle.laws.proofs.Cases.{by_cases, lt_or_le, refuted, and_left, and_right}
 use Rattle.laws.proofs.Sum.{sum_ext, sum_first, sum_plus, sum_const, sum_swap, sum_zero, sum_only, count_cell}
 use Rattle.paper.specs.declared.Run.{Run}
-use Rattle.paper.specs.declared.Held.TheVariants.{By}
+use Rattle.std.specs.Prelude.{Some}
 use Rattle.paper.specs.Duties.{same, busy}
 use Rattle.paper.specs.Words.{row, stop, Table, run_at, held_in}
 use Rattle.paper.specs.Walk.{loads}
@@ -93,12 +93,12 @@ module _ (m t : ℕ) (xs : List Run) (ok : Laid m t xs) where
 
   -- where a run starts, the unit before is not its duty's
   start_differs : (r u k : ℕ) → Covering xs (row r) (suc u) k → (run_at xs k).first ≡ suc u
-      → same (By (run_at xs k).duty) (held_in xs (row r) u) ≡ false
+      → same (Some (run_at xs k).duty) (held_in xs (row r) u) ≡ false
   unfolding same
   start_differs r u k c p =
       held_cases xs (row r) u
-      (λ e n. ap (same (By (run_at xs k).duty)) e)
-      (λ j d e. ap (same (By (run_at xs k).duty)) e ∙ ne_eqb (run_at xs k).duty (run_at xs j).duty (λ q. joined j d (sym q)))
+      (λ e n. ap (same (Some (run_at xs k).duty)) e)
+      (λ j d e. ap (same (Some (run_at xs k).duty)) e ∙ ne_eqb (run_at xs k).duty (run_at xs j).duty (λ q. joined j d (sym q)))
     where
       stops : (j : ℕ) → Covering xs (row r) u j → stop (run_at xs j) ≤ suc u
       stops j d =
@@ -115,12 +115,12 @@ module _ (m t : ℕ) (xs : List Run) (ok : Laid m t xs) where
 
   -- where a run goes on, the unit before is its duty's
   on_same : (r u k : ℕ) → Covering xs (row r) (suc u) k → ((run_at xs k).first ≡ suc u → ⊥)
-      → same (By (run_at xs k).duty) (held_in xs (row r) u) ≡ true
+      → same (Some (run_at xs k).duty) (held_in xs (row r) u) ≡ true
   unfolding same
   on_same r u k c n =
       let has : Has (run_at xs k) (suc u) = covers_has (run_at xs k) (row r) (suc u) c.covering in
       let low : (run_at xs k).first ≤ u = lt_or_le u (run_at xs k).first (λ l. absurd (n (omega arith))) (λ l. l) in
-      ap (same (By (run_at xs k).duty)) (held_by xs (row r) u ok.apart k (covering_other u c (omega arith)))
+      ap (same (Some (run_at xs k).duty)) (held_by xs (row r) u ok.apart k (covering_other u c (omega arith)))
       ∙ eq-eqb (run_at xs k).duty (run_at xs k).duty refl
 
   -- a unit after the first is a load exactly where a run starts there

@@ -17,7 +17,7 @@ use Rattle.laws.proofs.Decides.{spans}
 use Rattle.laws.proofs.Sum.{sum_ext, sum_plus, sum_zero, sum_only, count_stretch}
 use Rattle.paper.specs.declared.Row.{Row}
 use Rattle.paper.specs.declared.Run.{Run}
-use Rattle.paper.specs.declared.Held.TheVariants.{Idle, By}
+use Rattle.std.specs.Prelude.{None, Some}
 use Rattle.paper.specs.Duties.{same}
 use Rattle.paper.specs.Words.{row, stop, covers, run_at, held_in}
 use Rattle.paper.specs.Rules.{units_of}
@@ -46,11 +46,11 @@ abbrev pub Inside : ℕ → List Run → Type 0
 Inside t xs = (k : ℕ) → k < length xs → stop (run_at xs k) ≤ t
 
 -- idle is no duty; a duty is itself alone
-idle_same : (i : ℕ) → same Idle (By i) ≡ false
+idle_same : (i : ℕ) → same None (Some i) ≡ false
 unfolding same
 idle_same i = refl
 
-pub same_by : (i j : ℕ) → same (By i) (By j) ≡ eqb i j
+pub same_by : (i j : ℕ) → same (Some i) (Some j) ≡ eqb i j
 unfolding same
 same_by i j = refl
 
@@ -76,8 +76,8 @@ counts_units t x i h =
 -- ---- all runs
 
 -- one run more adds where it covers, since no later run of its row covers there too
-same_more : (x : Run) (xs : List Run) → RowsApart (x ∷ xs) → (i r u : ℕ) → one_if (same (held_in (x ∷ xs) (row r) u) (By i))
-    ≡ counts x i r u + one_if (same (held_in xs (row r) u) (By i))
+same_more : (x : Run) (xs : List Run) → RowsApart (x ∷ xs) → (i r u : ℕ) → one_if (same (held_in (x ∷ xs) (row r) u) (Some i))
+    ≡ counts x i r u + one_if (same (held_in xs (row r) u) (Some i))
 same_more x xs a i r u =
     by_cases (covers x (row r) u)
     (λ h. let idle = held_idle xs (row r) u (λ k l. covers_none h k l) in
@@ -92,13 +92,14 @@ same_more x xs a i r u =
 
 -- on each unit a duty holds as many rows as it has runs there
 pub rows_unit : (m : ℕ) (xs : List Run) → RowsApart xs → RowsBelow m xs → (i u : ℕ)
-    → sum_to m (λ r. one_if (same (held_in xs (row r) u) (By i))) ≡ on_unit xs i u
+    → sum_to m (λ r. one_if (same (held_in xs (row r) u) (Some i))) ≡ on_unit xs i u
 unfolding on_unit held_in
-rows_unit m [] a below i u = sum_zero m (λ r. one_if (same Idle (By i))) (λ r l. rw (idle_same i))
+rows_unit m [] a below i u = sum_zero m (λ r. one_if (same None (Some i))) (λ r l. rw (idle_same i))
 rows_unit m (x ∷ xs) a below i u =
-    sum_ext m (λ r. one_if (same (held_in (x ∷ xs) (row r) u) (By i))) (λ r. counts x i r u + one_if (same (held_in xs (row r) u) (By i)))
+    sum_ext m (λ r. one_if (same (held_in (x ∷ xs) (row r) u) (Some i)))
+    (λ r. counts x i r u + one_if (same (held_in xs (row r) u) (Some i)))
     (λ r l. same_more x xs a i r u)
-    ∙ sum_plus m (λ r. counts x i r u) (λ r. one_if (same (held_in xs (row r) u) (By i)))
+    ∙ sum_plus m (λ r. counts x i r u) (λ r. one_if (same (held_in xs (row r) u) (Some i)))
     ∙ rw (
       counts_rows m x i u (below 0 (omega arith)),
       rows_unit m xs (λ j k l h. a (suc j) (suc k) (omega arith) (omega arith))
@@ -116,7 +117,7 @@ units_block t (x ∷ xs) inside i =
 -- ---- at most once
 
 -- where a duty's runs are apart it holds a unit on one row only
-pub one_row : (xs : List Run) → DutiesApart xs → (r s : Row) (u i : ℕ) → held_in xs r u ≡ By i → held_in xs s u ≡ By i → r.0 ≡ s.0
+pub one_row : (xs : List Run) → DutiesApart xs → (r s : Row) (u i : ℕ) → held_in xs r u ≡ Some i → held_in xs s u ≡ Some i → r.0 ≡ s.0
 one_row xs a r s u i p q =
     let x = held_some xs r u i p in
     let y = held_some xs s u i q in
