@@ -19,10 +19,8 @@ fn print_numbers(out: &mut [u8], numbers: &[u64]) -> usize
     ensures { Puts (flat spaced numbers.now) out.old out.new result }
 {
     let mut at = 0;
-    let mut i = 0;
-    while i < numbers.len() {
-        at += print_number(&mut out[at..], numbers[i]);
-        i += 1;
+    for n in numbers {
+        at += print_number(&mut out[at..], *n);
     }
     at
 }
@@ -44,7 +42,7 @@ pub fn print_refused(out: &mut [u8], why: Refusal) -> usize
     requires { refused_line_room ≤ length out.old }
     ensures { Puts (print_line refused_word (why.number ∷ why.place ∷ [])) out.old out.new result }
 {
-    let number = why.number as u64;
+    let number = u64::from(why.number);
     let place = why.place as u64;
     let numbers = [number, place];
     print_line(out, b"refused", &numbers)

@@ -16,4 +16,4 @@ pub print_line-requires : goal.print_line-requires
 print_line-requires c = refused-fits _ _ _ (search rules) (search rules) (search rules)
 
 pub returns : goal.returns
-returns c = c.print_line.ensures
+returns c = rw c.from-number.ensures at c.print_line.ensures
