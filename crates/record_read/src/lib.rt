@@ -5,13 +5,14 @@
 ghost use Rattle.std.specs.Prelude.{◌≡◌, ◌+◌, ◌^◌, ◌<◌, ◌≤◌, length};
 ghost use Rattle.laws.specs.Digits.{num_at};
 ghost use Rattle.paper.specs.Limits.{small, most_duties, most_runs, head_length, duty_length, run_length};
-ghost use Rattle.paper.specs.Bytes.{duty_in, run_in, duty_place, run_place};
+ghost use Rattle.paper.specs.Bytes.{duty_in, run_in, duty_place, run_place, read_table};
+ghost use Rattle.paper.specs.Outcome.{answer};
 ghost use Rattle.paper.specs.Duties.{duty_at};
 ghost use Rattle.paper.specs.Words.{run_at};
 ghost use Rattle.paper.specs.Statements.{DutyRanged, RunRanged, Ranged};
 ghost use Rattle.paper.specs.Rules.{reading_of};
 ghost use Rattle.record_read.specs.Kinds.{kind_byte, kind_length};
-ghost use Rattle.record_read.specs.Formed.{IsHead, Formed, table_of};
+ghost use Rattle.record_read.specs.Formed.{IsHead, Formed};
 
 use paper::limits::{
     DUTY_KIND, DUTY_LENGTH, END_KIND, END_LENGTH, FIRST_FIELD, HEAD_KIND, HEAD_LENGTH,
@@ -157,7 +158,7 @@ impl<'a> TableBytes<'a> {
     // Bytes in good form, and their reading.
     pub fn new(bytes: &'a [u8], reading: Reading) -> TableBytes<'a>
         requires { Formed bytes.now reading }
-        ensures { result ≡ table_of bytes.now reading }
+        ensures { answer result ≡ read_table bytes.now }
     {
         TableBytes { bytes, reading }
     }
