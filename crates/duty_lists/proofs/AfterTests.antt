@@ -36,6 +36,12 @@ module _ (x : Wanted) where
   pub none_applies : taken x ≡ answer (duty_set x) → Taken x
   none_applies h = (taken_told x (duty_set x) h).0
 
+  -- .. and so the duties are as a taken list is
+  pub listed : Taken x → Listed (duty_set x)
+  listed c =
+      let many = length_duties x.services x.periods in
+      record { some = rw many c.counts.duties.0; few = rw many c.counts.duties.1; ranged = c.ranges }
+
   -- what is taken has its greatest block length
   pub block_is : Taken x → block_length_of (duty_set x) ≡ gcd_of x.periods
   block_is c = block_length_is x.services x.periods c.counts.lengths

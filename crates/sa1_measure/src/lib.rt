@@ -2,51 +2,33 @@
 // written.
 #![tactic(auto)]
 
-ghost use Rattle.paper.specs.Wanted.{duties_of};
-ghost use Rattle.duty_lists.specs.Sliceable.{Sliceable};
+ghost use Rattle.std.specs.Prelude.{◌≤◌};
+ghost use Rattle.paper.specs.Limits.{most_ticks};
 ghost use Rattle.sa1_measure.specs.Layouts.{Measured};
 
-use duty_lists::duty_at;
-use paper::Row;
-use sa1_runs::{Place, after, runs_at};
+use duty_lists::Duties;
+use paper::{Refusal, Row};
+use sa1_runs::{Layout, Place, Slice};
 use slices::share_of;
 
-// What the slices come to when they are laid one after the other: the first duty whose slice is not whole, or how many there are; how many
-// runs they make up to it; and the place after the last of these.
-#[derive(Clone, Copy)]
-pub struct Layout {
-    pub bad: usize,
-    pub runs: usize,
-    pub end: Place,
-}
-
-// Lays the slices of all duties by SA1, from unit 0 of row 0 on, up to the first that is not whole, and writes nothing.
-pub fn measure(t: u32, services: &[u32], periods: &[u32]) -> Layout
-    requires { Sliceable t services.now periods.now }
-    ensures { Measured t (duties_of services.now periods.now) result }
+// Lays the slices of all duties by SA1, from unit 0 of row 0 on, and writes nothing; 6 at the first that is not whole.
+pub fn measure(t: u32, duties: &Duties) -> Result<Layout, Refusal>
+    requires { (1 ≤ t) × (t ≤ most_ticks) }
+    ensures { Measured t duties.now result }
 {
     let mut runs = 0;
     let mut place = Place {
         row: Row(0),
         unit: 0,
     };
-    let mut i = 0;
-    while i < services.len() {
-        let share = share_of(t, duty_at(services, periods, i));
+    for i in 0..duties.len() {
+        let share = share_of(t, duties.duty(i));
         if 0 < share.rest {
-            return Layout {
-                bad: i,
-                runs,
-                end: place,
-            };
+            return Err(Refusal::PartSlice(i));
         }
-        runs += runs_at(t, share.units, place.unit);
-        place = after(t, share.units, place);
-        i += 1;
+        let slice = Slice::new(t, share.units, place);
+        runs += slice.runs();
+        place = slice.after();
     }
-    Layout {
-        bad: i,
-        runs,
-        end: place,
-    }
+    Ok(Layout { runs, end: place })
 }

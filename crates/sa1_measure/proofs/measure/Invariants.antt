@@ -1,4 +1,4 @@
-use Prim.Native.Nat.{◌+◌, ◌*◌, ◌-◌, ◌≤◌, ◌<◌}
+use Prim.Native.Nat.{◌+◌, ◌*◌, ◌≤◌, ◌<◌}
 use mathlib.Core.Path.{◌≡◌}
 use mathlib.Core.Bool.{not}
 use lib.ListN.{length, drop}
@@ -7,16 +7,12 @@ use Rattle.laws.proofs.Search.{Seeking}
 use Rattle.paper.specs.Duties.{duty_at}
 use Rattle.paper.specs.Words.{whole}
 use Rattle.paper.specs.Sa1.{slices}
-use Rattle.paper.specs.Wanted.{duties_of}
 use Rattle.sa1_runs.specs.Laying.{laid_from, corner, units_to}
 use Rattle.sa1_measure.proofs.measure.Given as goal
 
 abbrev pub invariant-loop-i : goal.invariant-loop-i
 invariant-loop-i l =
-    let ds = duties_of l.services l.periods in
+    let ds = l.duties in
     Seeking (λ d. not (whole l.t (duty_at ds d))) (length ds) l.i × (l.runs ≤ 2 * l.i) × (l.place.unit < l.t) × (l.place.row.0 ≤ l.i)
     × (l.runs + length (laid_from l.t (drop l.i (slices l.t ds)) l.i l.place) ≡ length (laid_from l.t (slices l.t ds) 0 corner))
     × (units_to l.t l.place + sum_of (drop l.i (slices l.t ds)) ≡ sum_of (slices l.t ds))
-
-abbrev pub decreases-loop-i : goal.decreases-loop-i
-decreases-loop-i l = length l.services - l.i
