@@ -5,17 +5,31 @@ use Prim.Native.Nat.{ℕ, ◌≤◌, ◌∣◌}
 use mathlib.Core.Path.{◌≡◌}
 use mathlib.Core.Logic.{◌↔◌}
 use native.Mathlib.Omega.{arith}
+use mathlib.Core.List.{List}
 use lib.ListN.{length}
 use Rattle.laws.specs.Divisor.{gcd_of}
+use Rattle.paper.specs.declared.Duty.{Duty}
+use Rattle.paper.specs.Limits.{most_ticks}
 use Rattle.paper.specs.Words.{block_length_of}
 use Rattle.paper.specs.Outcome.{answer}
 use Rattle.paper.specs.Wanted.{Wanted, duty_set, taken}
 use Rattle.paper.specs.Statements.{CommonDivisor}
+use Rattle.paper.proofs.Passed.{From}
 use Rattle.table_laws.proofs.Accepted.{common_when, block_divides}
 use Rattle.plan_laws.proofs.Sa1Table.{ticks_some, ticks_within}
 use Rattle.plan_laws.proofs.Planned.{length_duties, block_length_is}
 use Rattle.plan_laws.proofs.TakenWhen.{Taken, taken_told}
+use Rattle.duty_lists.specs.Listed.{Listed}
 use Rattle.duty_lists.specs.Sliceable.{Sliceable}
+
+-- a length that divides every period is in range, as the duties are, ..
+module _ {ds : List Duty} (l : Listed ds) where
+  pub within_by : (t : ℕ) → CommonDivisor t ds → From 1 most_ticks t
+  within_by t d = (ticks_some t ds l.some l.ranged d, ticks_within t ds l.some l.ranged d)
+
+  -- .. and so is the greatest
+  pub greatest_within : From 1 most_ticks (block_length_of ds)
+  greatest_within = within_by (block_length_of ds) (block_divides ds)
 
 module _ (x : Wanted) where
   -- where the duties are taken, none of 1 to 5 applies
