@@ -6,6 +6,7 @@ ghost use Rattle.laws.specs.Lists.{over};
 ghost use Rattle.paper.specs.Limits.{most_duties};
 ghost use Rattle.paper.specs.Sa2.{duty_count, allotments};
 ghost use Rattle.share_laws.specs.Cut.{cut_at};
+ghost use Rattle.share_common.specs.Common.{Shareable};
 ghost use Rattle.share_block.specs.Paced.{pace, free_at, lack_at, Shared};
 
 use paper::limits::MOST_DUTIES;
@@ -42,7 +43,8 @@ impl<'a> Model for Paces<'a> {
 impl<'a> Paces<'a> {
     // Before the first block, where each need is the share itself.
     pub fn begin(sharing: &'a Sharing<'a>) -> Paces<'a>
-        ensures { result ≡ pace sharing.now 0 }
+        ensures paced { result ≡ pace sharing.now 0 }
+        ensures shareable { Shareable sharing.now }
     {
         let ticks = sharing.ticks();
         let mut periods = [0; MOST_DUTIES];
