@@ -1,53 +1,29 @@
-// The blocks up to the periods' least common multiple, and refusals 22 and 7 of plans of shares.
+// Whose blocks are shared out, as one value; their number, up to the periods' least common multiple, with refusals 22 and 7.
 #![tactic(auto)]
 
-ghost use Rattle.std.specs.Prelude.{◌≡◌, ◌*◌, ◌/◌, ◌≤◌, ◌<◌, ltb, length};
-ghost use Rattle.laws.specs.Choice.{pick};
-ghost use Rattle.laws.specs.Divisor.{lcm, lcm_of};
+ghost use Rattle.std.specs.Prelude.{◌≡◌, ◌*◌, ◌^◌, ◌≤◌, ◌<◌, ltb, SomeIff};
+ghost use Rattle.laws.specs.Divisor.{lcm};
 ghost use Rattle.paper.specs.Duties.{asks, asked_in};
-ghost use Rattle.paper.specs.Limits.{most_engines, most_ticks, most_share_blocks};
-ghost use Rattle.paper.specs.Wanted.{duties_of};
-ghost use Rattle.paper.specs.Sa2.{sharing};
-ghost use Rattle.duty_lists.specs.Sliceable.{Sliceable};
-ghost use Rattle.share_common.specs.Common.{Positive, Divided, blocks_of, blocks_as};
+ghost use Rattle.paper.specs.Limits.{most_share_blocks};
+ghost use Rattle.paper.specs.Outcome.{outcome_of};
+ghost use Rattle.paper.specs.Sa2.{duty_count, duty_of};
+ghost use Rattle.paper.specs.Shares.{common, overloaded};
+ghost use Rattle.paper.specs.Statements.{DutyRanged};
+ghost use Rattle.paper.specs.Wanted.{wanted};
+ghost use Rattle.share_common.specs.Common.{Shareable, shared_of, blocks_of};
 
-use duty_lists::duty_at;
+use duty_lists::{Duties, take_duties};
 use paper::limits::MOST_SHARE_BLOCKS;
 use paper::{Duty, Refusal};
 use slices::gcd_of;
+use std::marker::Model;
 
-// The blocks of a plan of shares; or 22, or 7.
-#[derive(Clone, Copy)]
-pub enum BlockCount {
-    Blocks(u32),
-    Refused(Refusal),
-}
-
-// The least common multiple of two numbers: at most their product.
-fn multiple_of(a: u32, b: u32) -> u64
+// The least common multiple of two numbers; none where it is too much for 32 bits.
+fn multiple_of(a: u32, b: u32) -> Option<u32>
     requires { 0 < a }
-    ensures { result ≡ lcm a b }
+    ensures { SomeIff result (lcm a b < 2 ^ 32) (lcm a b) }
 {
-    (a / gcd_of(a, b)) as u64 * b as u64
-}
-
-// The least common multiple of the periods; 0 where it is more blocks than a plan may have.
-fn common_of(t: u32, periods: &[u32]) -> u32
-    requires { (1 ≤ t) × (t ≤ most_ticks) × Positive periods.now }
-    ensures { result ≡ pick (ltb (most_share_blocks * t) (lcm_of periods.now)) 0 (lcm_of periods.now) }
-{
-    let most = MOST_SHARE_BLOCKS * t;
-    let mut common: u32 = 1;
-    let mut i = 0;
-    while i < periods.len() {
-        let further = multiple_of(common, periods[i]);
-        if (most as u64) < further {
-            return 0;
-        }
-        common = further as u32;
-        i += 1;
-    }
-    common
+    (a / gcd_of(a, b)).checked_mul(b)
 }
 
 // The ticks that a duty asks for in so many, a multiple of its period: at most these.
@@ -55,41 +31,116 @@ fn asked_of(x: Duty, ticks: u32) -> u64
     requires { (0 < x.period) × (x.service ≤ x.period) }
     ensures { (result ≡ asks ticks x) × (result ≤ ticks) }
 {
-    x.service as u64 * (ticks / x.period) as u64
+    u64::from(x.service) * u64::from(ticks / x.period)
 }
 
-// Whether the duties need more than the engines have, over a common multiple of the periods.
-fn is_overload(t: u32, engines: u32, services: &[u32], periods: &[u32], common: u32) -> bool
-    requires { Sliceable t services.now periods.now × (engines ≤ most_engines) }
-    ensures { result ≡ ltb (engines * common) (asked_in common (duties_of services.now periods.now)) }
-{
-    let mut asked: u64 = 0;
-    let mut i = 0;
-    while i < services.len() {
-        asked += asked_of(duty_at(services, periods, i), common);
-        i += 1;
-    }
-    (engines as u64 * common as u64) < asked
+// Whose blocks are shared out: the block length, the engines, and the duties that were taken. The block length divides every period.
+#[derive(Drop)]
+pub struct Sharing<'a> {
+    ticks: u32,
+    engines: u32,
+    duties: Duties<'a>,
 }
 
-// The blocks up to the common multiple: 22 where they are too many, then 7 where the duties need more than the engines have.
-pub fn block_count(t: u32, engines: u32, services: &[u32], periods: &[u32]) -> BlockCount
-    requires { Sliceable t services.now periods.now × Divided t periods.now × (1 ≤ length periods.now)
-        × (engines ≤ most_engines) }
-    ensures { blocks_as result ≡ blocks_of (sharing t engines (duties_of services.now periods.now)) }
+impl<'a> Model for Sharing<'a> {
+    ghost use Rattle.paper.specs.Sa2.{Sharing, sharing};
+    ghost use Rattle.share_common.specs.Common.{Shareable};
+
+    ghost Value = { Sharing };
+
+    ghost view = { λ a. sharing a.ticks a.engines a.duties };
+
+    ghost invariant = { λ a. Shareable (sharing a.ticks a.engines a.duties) };
+}
+
+impl<'a> Sharing<'a> {
+    // The block length.
+    pub fn ticks(&self) -> u32
+        ensures value { result ≡ self.now.ticks }
+        ensures shareable { Shareable self.now }
+    {
+        self.ticks
+    }
+
+    // The engines.
+    pub fn engines(&self) -> u32
+        ensures value { result ≡ self.now.engines }
+        ensures shareable { Shareable self.now }
+    {
+        self.engines
+    }
+
+    // How many duties there are.
+    pub fn duty_count(&self) -> usize
+        ensures value { result ≡ duty_count self.now }
+        ensures shareable { Shareable self.now }
+    {
+        self.duties.len()
+    }
+
+    // Duty i.
+    pub fn duty(&self, i: usize) -> Duty
+        requires { i < duty_count self.now }
+        ensures value { result ≡ duty_of self.now i }
+        ensures ranged { DutyRanged result }
+    {
+        self.duties.duty(i)
+    }
+
+    // The least common multiple of the periods; none where it is more blocks than a plan may have.
+    fn common(&self) -> Option<u32>
+        ensures value { SomeIff result (common self.now ≤ most_share_blocks * self.now.ticks) (common self.now) }
+        ensures shareable { Shareable self.now }
+    {
+        let most = MOST_SHARE_BLOCKS * self.ticks();
+        let mut common = 1;
+        for i in 0..self.duty_count() {
+            common = multiple_of(common, self.duty(i).period)?;
+            if most < common {
+                return None;
+            }
+        }
+        Some(common)
+    }
+
+    // Whether the duties need more than the engines have, over so many ticks, a common multiple of the periods.
+    fn is_overload(&self, ticks: u32) -> bool
+        ensures { result ≡ ltb (self.now.engines * ticks) (asked_in ticks self.now.duties) }
+    {
+        let mut asked = 0;
+        for i in 0..self.duty_count() {
+            asked += asked_of(self.duty(i), ticks);
+        }
+        u64::from(self.engines()) * u64::from(ticks) < asked
+    }
+
+    // The blocks up to the common multiple: 22 where they are too many, then 7 where the duties need more than the engines have.
+    pub fn blocks(&self) -> Result<u32, Refusal>
+        ensures { outcome_of result ≡ blocks_of self.now }
+    {
+        let Some(common) = self.common() else {
+            return Err(Refusal::ManyShareBlocks);
+        };
+        if self.is_overload(common) {
+            return Err(Refusal::Overload);
+        }
+        Ok(common / self.ticks())
+    }
+}
+
+// Takes the duties of the two lists, after tests 1 to 5, for blocks of the periods' greatest common divisor.
+pub fn take_sharing<'a>(
+    engines: u32,
+    services: &'a [u32],
+    periods: &'a [u32],
+) -> Result<Sharing<'a>, Refusal>
+    ensures { outcome_of result ≡ shared_of (wanted engines services.now periods.now) }
 {
-    let common = common_of(t, periods);
-    if common == 0 {
-        return BlockCount::Refused(Refusal {
-            number: 22,
-            place: 0,
-        });
-    }
-    if is_overload(t, engines, services, periods, common) {
-        return BlockCount::Refused(Refusal {
-            number: 7,
-            place: 0,
-        });
-    }
-    BlockCount::Blocks(common / t)
+    let duties = take_duties(engines, services, periods)?;
+    let ticks = duties.greatest();
+    Ok(Sharing {
+        ticks,
+        engines,
+        duties,
+    })
 }
