@@ -1,10 +1,8 @@
-// The rows of all engines in a block, worked out from the block's number, chain by chain; and lists of rows compared.
+// The rows of all engines in a block, worked out from the block's number, chain by chain.
 #![tactic(auto)]
 
 ghost use Rattle.std.specs.Prelude.{◌≡◌, ◌≤◌};
-ghost use Rattle.laws.specs.Lists.{same_list};
 ghost use Rattle.paper.specs.Limits.{most_engines};
-ghost use Rattle.paper.specs.Words.{row_numbers};
 ghost use Rattle.paper.specs.Answers.{rows_at};
 ghost use Rattle.row_edges.specs.Links.{link_of};
 ghost use Rattle.rotation.specs.Turning.{IsTurned};
@@ -38,26 +36,10 @@ pub fn rows_at(edges: &[u32; EDGES], engines: u32, block: u64) -> [Row; MOST_ENG
         },
         places: 0,
     };
-    let mut i: u32 = 0;
-    while i < engines {
+    for i in 0..engines {
         turned = onward(edges, block, turned, Row(i));
         let at = i as usize;
         rows[at] = row_of(turned, Engine(i));
-        i += 1;
     }
     rows
-}
-
-// Whether two lists of rows are the same.
-pub fn same_rows(a: [Row; MOST_ENGINES], b: [Row; MOST_ENGINES]) -> bool
-    ensures { result ≡ same_list (row_numbers a) (row_numbers b) }
-{
-    let mut i = 0;
-    while i < MOST_ENGINES {
-        if a[i].0 != b[i].0 {
-            return false;
-        }
-        i += 1;
-    }
-    true
 }

@@ -4,13 +4,13 @@
 
 ghost use Rattle.std.specs.Prelude.{◌≡◌, ◌≤◌};
 ghost use Rattle.paper.specs.Limits.{most_engines};
-ghost use Rattle.paper.specs.Outcome.{answer, refused_as};
-ghost use Rattle.paper.specs.Answers.{Hands, state_at, is_state, next_by, row_by, row_as};
+ghost use Rattle.paper.specs.Outcome.{answer, refused_as, outcome_of};
+ghost use Rattle.paper.specs.Answers.{Hands, state_at, is_state, next_by, row_by};
 ghost use Rattle.row_edges.specs.Links.{link_of};
 
-use dispatch_rows::{rows_at, same_rows};
+use dispatch_rows::rows_at;
 use paper::limits::{EDGES, LAST_BLOCK, MOST_ENGINES};
-use paper::{Dispatched, Engine, Refusal, Row, RowTold, State, Verdict};
+use paper::{Dispatched, Engine, Refusal, Row, State};
 use rotation::row_in;
 
 // Whether a state is the one for its block.
@@ -18,8 +18,7 @@ fn is_own(edges: &[u32; EDGES], engines: u32, s: State) -> bool
     requires { engines ≤ most_engines }
     ensures { result ≡ is_state (link_of edges.now) engines s }
 {
-    let rows = s.rows;
-    same_rows(rows, rows_at(edges, engines, s.block))
+    s.rows == rows_at(edges, engines, s.block)
 }
 
 // The state of a block.
@@ -29,7 +28,7 @@ pub fn state_at(edges: &[u32; EDGES], engines: u32, block: u64) -> Dispatched
 {
     let rows = rows_at(edges, engines, block);
     Dispatched {
-        verdict: Verdict::Done,
+        verdict: Ok(()),
         state: State { block, rows },
     }
 }
@@ -40,7 +39,7 @@ pub fn refuse(why: Refusal) -> Dispatched
 {
     let rows = [Row(0); MOST_ENGINES];
     Dispatched {
-        verdict: Verdict::Refused(why),
+        verdict: Err(why),
         state: State { block: 0, rows },
     }
 }
@@ -51,38 +50,26 @@ pub fn advance(edges: &[u32; EDGES], engines: u32, s: State) -> Dispatched
     ensures { Hands (next_by (link_of edges.now) engines s) result }
 {
     if !is_own(edges, engines, s) {
-        return refuse(Refusal {
-            number: 20,
-            place: 0,
-        });
+        return refuse(Refusal::StrangeState);
     }
     let block = s.block;
     if block == LAST_BLOCK {
-        return refuse(Refusal {
-            number: 21,
-            place: 0,
-        });
+        return refuse(Refusal::LastBlock);
     }
     let next = block + 1;
     state_at(edges, engines, next)
 }
 
 // The row of an engine by a state.
-pub fn tell(edges: &[u32; EDGES], engines: u32, s: State, engine: Engine) -> RowTold
+pub fn tell(edges: &[u32; EDGES], engines: u32, s: State, engine: Engine) -> Result<Row, Refusal>
     requires { engines ≤ most_engines }
-    ensures { row_as result ≡ row_by (link_of edges.now) engines s engine }
+    ensures { outcome_of result ≡ row_by (link_of edges.now) engines s engine }
 {
     if engines <= engine.0 {
-        return RowTold::Refused(Refusal {
-            number: 18,
-            place: 0,
-        });
+        return Err(Refusal::NoEngine);
     }
     if !is_own(edges, engines, s) {
-        return RowTold::Refused(Refusal {
-            number: 20,
-            place: 0,
-        });
+        return Err(Refusal::StrangeState);
     }
-    RowTold::At(row_in(edges, engine, s.block))
+    Ok(row_in(edges, engine, s.block))
 }

@@ -1,16 +1,8 @@
--- `tell`: 18, then 20, else the row.
+-- `tell`: where neither 18 nor 20 is told, the row.
 use mathlib.Core.Path.{sym}
 use borrow.Author.Rules.{rules}
-use Rattle.dispatch_state.proofs.Deciding.{row_absent, row_foreign, row_told_lem}
+use Rattle.dispatch_state.proofs.Deciding.{row_told_lem}
 use Rattle.dispatch_state.proofs.tell.Goals as goal
-
-pub returns-then-engines-engine : goal.returns-then-engines-engine
-returns-then-engines-engine c = let args = c.args in sym (row_absent _ args.engines args.s args.engine (search rules))
-
-pub returns-then-not-is_own : goal.returns-then-not-is_own
-returns-then-not-is_own c =
-    let args = c.args in
-    sym (row_foreign _ args.engines args.s c.is_own.ensures args.engine (search rules) (search rules))
 
 pub returns : goal.returns
 returns c =

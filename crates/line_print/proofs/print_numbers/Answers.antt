@@ -3,19 +3,13 @@ use mathlib.Core.Path.{refl}
 use borrow.Author.Rules.{rules}
 use native.Mathlib.Omega.{arith}
 use Rattle.laws.proofs.Writing.{length-lent}
-use Rattle.laws.proofs.Listing.{listing_start, listing_at, listing_room, listing_more, listing_end}
+use Rattle.laws.proofs.Listing.{listing_start, listing_room, listing_more, listing_end}
 use Rattle.number_print.specs.Spaced.{spaced}
 use Rattle.line_print.proofs.print_numbers.Goals as goal
 use Rattle.line_print.proofs.print_numbers.Goals.{In-loop-n}
 
 pub loop-n-init : goal.loop-n-init
 loop-n-init c = listing_start spaced _ _
-
-pub slice_bounds-print_number-count : goal.slice_bounds-print_number-count
-slice_bounds-print_number-count c = omega (arith, listing_at c.loop-n.invariant)
-
-pub slice_bounds-print_number-start : goal.slice_bounds-print_number-start
-slice_bounds-print_number-start c = slice_bounds-print_number-count (goal.at.slice_bounds-print_number-start c).In-loop-n
 
 pub print_number-at-requires : goal.print_number-at-requires
 print_number-at-requires c = rw length-lent (omega (arith, listing_room 0 _ refl c.loop-n.invariant (search rules)))
