@@ -4,11 +4,11 @@
 
 ghost use Rattle.std.specs.Prelude.{◌≡◌, ◌+◌, ◌^◌, ◌<◌, ◌≤◌, length};
 ghost use Rattle.laws.specs.Digits.{num_at};
-ghost use Rattle.paper.specs.Limits.{small, most_duties, most_runs, head_length, duty_length, run_length};
+ghost use Rattle.paper.specs.Limits.{small, most_ticks, most_duties, most_runs, head_length, duty_length, run_length};
 ghost use Rattle.paper.specs.Bytes.{duty_in, run_in, duty_place, run_place, read_table};
 ghost use Rattle.paper.specs.Outcome.{answer};
 ghost use Rattle.paper.specs.Duties.{duty_at};
-ghost use Rattle.paper.specs.Words.{run_at};
+ghost use Rattle.paper.specs.Words.{stop, covers, run_at};
 ghost use Rattle.paper.specs.Statements.{DutyRanged, RunRanged, Ranged};
 ghost use Rattle.paper.specs.Rules.{reading_of};
 ghost use Rattle.record_read.specs.Kinds.{kind_byte, kind_length};
@@ -103,6 +103,7 @@ pub fn read_duty(b: &[u8], at: usize) -> Duty
 }
 
 // The run in the record at an offset.
+#[tactic(auto, unfolding(paper::specs::Bytes::run_in))]
 pub fn read_run(b: &[u8], at: usize) -> Run
     requires { at + run_length small ≤ length b.now }
     ensures { result ≡ run_in small b.now at }
@@ -117,6 +118,15 @@ pub fn read_run(b: &[u8], at: usize) -> Run
         first,
         length,
     }
+}
+
+// Whether a run is on the row and has the unit.
+#[tactic(auto, unfolding(paper::specs::Words::covers))]
+pub fn run_covers(x: Run, row: Row, unit: u32) -> bool
+    requires { stop x ≤ most_ticks }
+    ensures { result ≡ covers x row unit }
+{
+    (x.row == row) & (x.first <= unit) & (unit < x.first + x.length)
 }
 
 // Where the record of duty d stands.
@@ -166,6 +176,8 @@ impl<'a> TableBytes<'a> {
     // The block length, and how many engines, duties and runs there are.
     pub fn reading(&self) -> Reading
         ensures told { result ≡ reading_of self.now }
+        ensures fields { (result.block_length ≡ self.now.ticks) × (result.engines ≡ self.now.engines)
+            × (result.duties ≡ length self.now.duties) × (result.runs ≡ length self.now.runs) }
         ensures ranged { Ranged small self.now }
     {
         self.reading
