@@ -14,7 +14,7 @@ use paper::Row;
 use paper::limits::{DUTY_LENGTH, HEAD_LENGTH, RUN_LENGTH};
 use record_write::{put_duty, put_end, put_head, put_run};
 use sa1_runs::{Place, Slice};
-use slices::slice_of;
+use slices::share_of;
 
 // Writes the runs of duty i, whose slice this is, each where the last one stopped, and answers how many bytes they have.
 #[tactic(auto, unfolding(sa1_runs::specs::Laying::runs_at))]
@@ -48,7 +48,7 @@ fn put_records(out: &mut [u8], t: u32, duties: &Duties) -> usize
         let x = duties.duty(i);
         let record = DUTY_LENGTH * i;
         put_duty(&mut out[record..], x);
-        let slice = Slice::new(t, slice_of(t, x), place);
+        let slice = Slice::new(t, share_of(t, x).units, place);
         // `as`, since it is proved that nothing is lost: `u32::try_from` would have an error that cannot come.
         at += put_duty_runs(&mut out[at..], &slice, i as u32);
         place = slice.after();

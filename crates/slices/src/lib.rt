@@ -103,7 +103,8 @@ pub struct Share {
 // The whole units are at most T, since C is at most D.
 pub fn share_of(t: u32, x: Duty) -> Share
     requires { (t ≤ most_ticks) × (x.service ≤ most_ticks) × (x.service ≤ x.period) × (0 < x.period) }
-    ensures { (result.units ≡ slice t x) × (result.rest ≡ t * x.service % x.period) × (result.units ≤ t) }
+    ensures { (result.units ≡ slice t x) × (result.rest ≡ t * x.service % x.period) × (result.units ≤ t)
+        × (whole t x ≡ eqb result.rest 0) }
 {
     let all = scaled(t, x.service);
     let period = u64::from(x.period);

@@ -1,7 +1,7 @@
 -- `measure`: the slices passed are whole; the runs so far, with those of the slices that are left from this place on, are all runs; the
 -- units before this place, with what is left, are all units. The row is at most i, since a duty moves it by one at the most.
-use Prim.Native.Nat.{ℕ, ◌≤◌, ◌<◌}
-use mathlib.Core.Path.{◌≡◌, sym, ap, ◌∙◌}
+use Prim.Native.Nat.{◌≤◌, ◌<◌}
+use mathlib.Core.Path.{◌≡◌, ap, ◌∙◌}
 use mathlib.Core.Bool.{not}
 use native.Mathlib.Omega.{arith}
 use borrow.Author.Rules.{rules}
@@ -12,7 +12,6 @@ use Rattle.laws.proofs.Search.{seek_more, seek_hit, seek_miss}
 use Rattle.paper.specs.declared.Refusal.TheVariants.{PartSlice}
 use Rattle.paper.specs.Duties.{duty_at}
 use Rattle.paper.specs.Words.{slice, whole}
-use Rattle.slices.proofs.Shares.{whole_is}
 use Rattle.duty_lists.proofs.Slices.{total_left, total_none}
 use Rattle.sa1_runs.specs.Laying.{place_after, units_to}
 use Rattle.sa1_runs.proofs.Laying.{units_after}
@@ -24,9 +23,7 @@ use Rattle.sa1_measure.proofs.measure.Goals.{After-share_of-share}
 told :
     (c : After-share_of-share)
     → whole c.args.t (duty_at c.args.duties.now c.loop-i.i) ≡ eqb c.share_of-share.result.rest 0
-told c =
-    ap (whole _) (sym c.duty.ensures.value) ∙ whole_is _ c.duty.result
-    ∙ ap (λ (k : ℕ). eqb k 0) (sym c.share_of-share.ensures.1)
+told c = rw (← c.duty.ensures.value) c.share_of-share.ensures.3
 
 pub returns-then-share-gt0 : goal.returns-then-share-gt0
 returns-then-share-gt0 c =

@@ -2,7 +2,7 @@
 use mathlib.Core.Path.{sym}
 use native.Mathlib.Nat.{div-le_of_le-mul, mul-le-mul_left}
 use native.Mathlib.Omega.{arith}
-use Rattle.slices.proofs.Shares.{slice_is}
+use Rattle.slices.proofs.Shares.{slice_is, whole_is}
 use Rattle.slices.proofs.share_of.Goals as goal
 
 pub returns : goal.returns
@@ -12,4 +12,5 @@ returns c =
       rw all (sym (slice_is _ _)),
       rw all,
       div-le_of_le-mul c.args.x.period (omega (arith, all, mul-le-mul_left c.args.t c.requires.2)),
+      rw all (whole_is _ _),
     )
