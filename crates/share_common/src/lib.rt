@@ -116,7 +116,8 @@ impl<'a> Sharing<'a> {
 
     // The blocks up to the common multiple: 22 where they are too many, then 7 where the duties need more than the engines have.
     pub fn blocks(&self) -> Result<u32, Refusal>
-        ensures { outcome_of result ≡ blocks_of self.now }
+        ensures told { outcome_of result ≡ blocks_of self.now }
+        ensures shareable { Shareable self.now }
     {
         let Some(common) = self.common() else {
             return Err(Refusal::ManyShareBlocks);
