@@ -2,15 +2,13 @@
 -- since it divides a period that is. The greatest is the greatest common divisor of the periods.
 -- Assumes nothing.
 use Prim.Native.Nat.{ℕ, ◌≤◌, ◌∣◌}
-use mathlib.Core.Path.{◌≡◌, sym, ◌∙◌}
+use mathlib.Core.Path.{◌≡◌}
 use mathlib.Core.Logic.{◌↔◌}
 use native.Mathlib.Omega.{arith}
 use lib.ListN.{length}
 use Rattle.laws.specs.Divisor.{gcd_of}
-use Rattle.paper.specs.declared.Verdict.{Verdict}
-use Rattle.paper.specs.declared.Verdict.TheVariants.{Done}
 use Rattle.paper.specs.Words.{block_length_of}
-use Rattle.paper.specs.Outcome.{verdict_as}
+use Rattle.paper.specs.Outcome.{answer}
 use Rattle.paper.specs.Wanted.{Wanted, duty_set, taken}
 use Rattle.paper.specs.Statements.{CommonDivisor}
 use Rattle.table_laws.proofs.Accepted.{common_when, block_divides}
@@ -20,9 +18,9 @@ use Rattle.plan_laws.proofs.TakenWhen.{Taken, taken_told}
 use Rattle.duty_lists.specs.Sliceable.{Sliceable}
 
 module _ (x : Wanted) where
-  -- where the verdict is done, none of 1 to 5 applies
-  pub none_applies : (v : Verdict) → verdict_as v (duty_set x) ≡ taken x → v ≡ Done → Taken x
-  none_applies v h e = (taken_told x (duty_set x) (sym h ∙ rw e)).0
+  -- where the duties are taken, none of 1 to 5 applies
+  pub none_applies : taken x ≡ answer (duty_set x) → Taken x
+  none_applies h = (taken_told x (duty_set x) h).0
 
   -- what is taken has its greatest block length
   pub block_is : Taken x → block_length_of (duty_set x) ≡ gcd_of x.periods

@@ -1,2 +1,2 @@
-pub mod Duties
+pub mod Slices
 pub mod AfterTests

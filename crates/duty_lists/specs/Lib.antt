@@ -1,1 +1,2 @@
 pub mod Sliceable
+pub mod Told

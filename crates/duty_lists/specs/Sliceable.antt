@@ -1,5 +1,6 @@
 -- What is known of the two lists on the way: that they belong together, and that their duties are in range.
 use Rattle.std.specs.Prelude.{ℕ, ◌≤◌, ◌<◌, ◌≡◌, List, length}
+use Rattle.paper.specs.declared.Duty.{Duty}
 use Rattle.paper.specs.Duties.{duty_at}
 use Rattle.paper.specs.Limits.{most_duties, most_ticks}
 use Rattle.paper.specs.Wanted.{duties_of}
@@ -16,3 +17,9 @@ pub record Sliceable (t : ℕ) (ss ps : List ℕ) : Type 0 where
   pub ticks_least : 1 ≤ t
   pub ticks_most : t ≤ most_ticks
   pub ranged : (i : ℕ) → i < length ss → DutyRanged (duty_at (duties_of ss ps) i)
+
+-- what is true of duties that were taken: there are some, no more than a table has, and each is in range
+pub record Listed (ds : List Duty) : Type 0 where
+  pub some : 1 ≤ length ds
+  pub few : length ds ≤ most_duties
+  pub ranged : (i : ℕ) → i < length ds → DutyRanged (duty_at ds i)

@@ -3,13 +3,67 @@
 
 ghost use Rattle.std.specs.Prelude.{◌≡◌, ◌<◌, length};
 ghost use Rattle.paper.specs.Duties.{duty_at};
-ghost use Rattle.paper.specs.Outcome.{verdict_as};
+ghost use Rattle.paper.specs.Statements.{DutyRanged};
 ghost use Rattle.paper.specs.Wanted.{wanted, duties_of, bad_range, taken};
-ghost use Rattle.duty_lists.specs.Sliceable.{Paired};
+ghost use Rattle.paper.specs.Words.{block_length_of};
+ghost use Rattle.duty_lists.specs.Sliceable.{Paired, Listed};
+ghost use Rattle.duty_lists.specs.Told.{told};
 
 use paper::limits::{MOST_DUTIES, MOST_ENGINES};
-use paper::{Duty, Refusal, Verdict};
-use slices::{duty_in_range, is_within, range_fault};
+use paper::{Duty, Refusal};
+use slices::{duty_in_range, gcd_of_all, is_within, range_fault};
+use std::marker::Model;
+
+// The duties, where they were lent as two lists, of services and of periods, and have passed tests 2 to 5.
+#[derive(Drop)]
+pub struct Duties<'a> {
+    services: &'a [u32],
+    periods: &'a [u32],
+}
+
+impl<'a> Model for Duties<'a> {
+    ghost use Rattle.std.specs.Prelude.{◌≡◌, List, length};
+    ghost use Rattle.paper.specs.declared.Duty.{Duty};
+    ghost use Rattle.paper.specs.Wanted.{duties_of};
+    ghost use Rattle.duty_lists.specs.Sliceable.{Listed};
+
+    ghost Value = { List Duty };
+
+    ghost view = { λ a. duties_of a.services.now a.periods.now };
+
+    ghost invariant = { λ a. (length a.services.now ≡ length a.periods.now) × Listed (duties_of a.services.now a.periods.now) };
+}
+
+impl<'a> Duties<'a> {
+    // How many duties there are.
+    pub fn len(&self) -> usize
+        ensures count { result ≡ length self.now }
+        ensures listed { Listed self.now }
+    {
+        self.services.len()
+    }
+
+    // Duty i.
+    pub fn duty(&self, i: usize) -> Duty
+        requires { i < length self.now }
+        ensures value { result ≡ duty_at self.now i }
+        ensures ranged { DutyRanged result }
+    {
+        let services = self.services;
+        let periods = self.periods;
+        Duty {
+            service: services[i],
+            period: periods[i],
+        }
+    }
+
+    // The greatest block length: the periods' greatest common divisor.
+    pub fn greatest(&self) -> u32
+        ensures { result ≡ block_length_of self.now }
+    {
+        gcd_of_all(self.periods)
+    }
+}
 
 // Duty i of the two lists.
 pub fn duty_at(services: &[u32], periods: &[u32], i: usize) -> Duty
@@ -38,25 +92,28 @@ fn bad_range(services: &[u32], periods: &[u32]) -> usize
 }
 
 // Takes the duties of the two lists, after tests 1 to 5 in their order.
-pub fn take_duties(engines: u32, services: &[u32], periods: &[u32]) -> Verdict
-    ensures { verdict_as result (duties_of services.now periods.now)
-        ≡ taken (wanted engines services.now periods.now) }
+pub fn take_duties<'a>(
+    engines: u32,
+    services: &'a [u32],
+    periods: &'a [u32],
+) -> Result<Duties<'a>, Refusal>
+    ensures { told result ≡ taken (wanted engines services.now periods.now) }
 {
     if !is_within(1, MOST_ENGINES, engines as usize) {
-        return Verdict::Refused(Refusal {
+        return Err(Refusal {
             number: 1,
             place: 0,
         });
     }
     let duties = services.len();
     if duties != periods.len() {
-        return Verdict::Refused(Refusal {
+        return Err(Refusal {
             number: 2,
             place: 0,
         });
     }
     if !is_within(1, MOST_DUTIES, duties) {
-        return Verdict::Refused(Refusal {
+        return Err(Refusal {
             number: 3,
             place: 0,
         });
@@ -64,7 +121,7 @@ pub fn take_duties(engines: u32, services: &[u32], periods: &[u32]) -> Verdict
     let bad = bad_range(services, periods);
     if bad < duties {
         let why = range_fault(periods[bad], bad);
-        return Verdict::Refused(why);
+        return Err(why);
     }
-    Verdict::Done
+    Ok(Duties { services, periods })
 }

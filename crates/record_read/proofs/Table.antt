@@ -4,12 +4,13 @@
 use Prim.Native.Nat.{ℕ, ◌<◌}
 use mathlib.Core.Path.{◌≡◌, refl, sym, ap, ◌∙◌}
 use mathlib.Core.List.{List}
+use native.Mathlib.Omega.{arith}
 use lib.ListN.{length}
 use Rattle.laws.specs.Lists.{tab}
 use Rattle.laws.proofs.Lists.{length-tab, get_or-tab}
 use Rattle.paper.specs.declared.Reading.{Reading}
 use Rattle.paper.specs.Duties.{duty, duty_at}
-use Rattle.paper.specs.Words.{run, run_at}
+use Rattle.paper.specs.Words.{Table, run, run_at}
 use Rattle.paper.specs.Limits.{small}
 use Rattle.paper.specs.Bytes.{ticks_in, engines_in, duty_place, run_place, duty_in, run_in, table_in}
 use Rattle.paper.specs.Rules.{reading_of}
@@ -90,3 +91,23 @@ table_ranged b rd F =
     run_is : (k : ℕ) → k < rd.runs
         → RunRanged (table_of b rd).ticks (table_of b rd).engines (length (table_of b rd).duties) (run_at (table_of b rd).runs k)
     run_is k h = rw (table_ticks b rd F, table_engines b rd F, table_duties b rd, table_run b rd k h) (F.run_ranged_lem k h)
+
+-- where the table in the bytes is t: a duty or a run of t is one that the reading counts, and is what stands in the bytes at its place
+module _ {b : List ℕ} {rd : Reading} {t : Table} (F : Formed b rd) (seen : table_of b rd ≡ t) where
+  pub seen_reading : rd ≡ reading_of t
+  seen_reading = sym (table_reading b rd F) ∙ ap reading_of seen
+
+  pub seen_ranged : Ranged small t
+  seen_ranged = rw seen at (table_ranged b rd F)
+
+  pub duty_counted : (d : ℕ) → d < length t.duties → d < rd.duties
+  duty_counted d h = omega (arith, table_duties b rd, ap (λ x. length x.duties) seen)
+
+  pub run_counted : (k : ℕ) → k < length t.runs → k < rd.runs
+  run_counted k h = omega (arith, table_runs b rd, ap (λ x. length x.runs) seen)
+
+  pub seen_duty : (d : ℕ) → d < length t.duties → duty_in b (duty_place small d) ≡ duty_at t.duties d
+  seen_duty d h = sym (table_duty b rd d (duty_counted d h)) ∙ ap (λ x. duty_at x.duties d) seen
+
+  pub seen_run : (k : ℕ) → k < length t.runs → run_in small b (run_place small rd.duties k) ≡ run_at t.runs k
+  seen_run k h = sym (table_run b rd k (run_counted k h)) ∙ ap (λ x. run_at x.runs k) seen

@@ -40,15 +40,9 @@ pub fn range_fault(period: u32, d: usize) -> Refusal
     ensures { refused_as {A = List Duty} result ≡ pick (within 1 most_ticks period) (refused 5 d) (refused 4 d) }
 {
     if period_in_range(period) {
-        return Refusal {
-            number: 5,
-            place: d,
-        };
+        return Refusal::Service(d);
     }
-    Refusal {
-        number: 4,
-        place: d,
-    }
+    Refusal::Period(d)
 }
 
 // The greatest common divisor, by Euclid's steps.
@@ -70,10 +64,8 @@ pub fn gcd_of_all(periods: &[u32]) -> u32
     ensures { result ≡ gcd_of periods.now }
 {
     let mut g: u32 = 0;
-    let mut i = 0;
-    while i < periods.len() {
-        g = gcd_of(g, periods[i]);
-        i += 1;
+    for period in periods {
+        g = gcd_of(g, *period);
     }
     g
 }
@@ -82,10 +74,7 @@ pub fn gcd_of_all(periods: &[u32]) -> u32
 pub fn length_meant(wish: u32, greatest: u32) -> u32
     ensures { result ≡ pick (eqb wish 0) greatest wish }
 {
-    if wish == 0 {
-        return greatest;
-    }
-    wish
+    if wish == 0 { greatest } else { wish }
 }
 
 // T·C: it has 40 bits at the most.
@@ -93,7 +82,7 @@ fn scaled(t: u32, service: u32) -> u64
     requires { (t ≤ most_ticks) × (service ≤ most_ticks) }
     ensures { (result ≡ t * service) × (result ≤ most_ticks * most_ticks) }
 {
-    t as u64 * service as u64
+    u64::from(t) * u64::from(service)
 }
 
 // Whether a duty's slice T·C/D is whole.
@@ -101,11 +90,11 @@ pub fn is_whole(t: u32, x: Duty) -> bool
     requires { (t ≤ most_ticks) × (x.service ≤ most_ticks) × (0 < x.period) }
     ensures { result ≡ whole t x }
 {
-    scaled(t, x.service) % x.period as u64 == 0
+    scaled(t, x.service) % u64::from(x.period) == 0
 }
 
 // A duty's share of a block, T·C/D: whole units, and the part of a unit, in D-ths.
-#[derive(Clone, Copy)]
+#[derive(Clone, Copy, Debug, PartialEq, Eq)]
 pub struct Share {
     pub units: u32,
     pub rest: u32,
@@ -117,7 +106,8 @@ pub fn share_of(t: u32, x: Duty) -> Share
     ensures { (result.units ≡ slice t x) × (result.rest ≡ t * x.service % x.period) × (result.units ≤ t) }
 {
     let all = scaled(t, x.service);
-    let period = x.period as u64;
+    let period = u64::from(x.period);
+    // `as`, since it is proved that nothing is lost: `u32::try_from` would have an error that cannot come.
     let units = (all / period) as u32;
     let rest = (all % period) as u32;
     Share { units, rest }

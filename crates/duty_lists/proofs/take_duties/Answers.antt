@@ -5,7 +5,8 @@ use native.Mathlib.Omega.{arith}
 use borrow.Author.Rules.{rules}
 use Rattle.paper.specs.Limits.{most_engines}
 use Rattle.paper.specs.Bytes.{within}
-use Rattle.paper.specs.Wanted.{Wanted, wanted}
+use Rattle.paper.specs.Outcome.{answer}
+use Rattle.paper.specs.Wanted.{Wanted, wanted, duty_set, taken}
 use Rattle.plan_laws.proofs.Planned.{length_duties, duty_is}
 use Rattle.plan_laws.proofs.TakenWhen.{
   Counts,
@@ -15,6 +16,7 @@ use Rattle.plan_laws.proofs.TakenWhen.{
   counts_good,
   range_refused,
   ranges_taken,
+  taken_told,
 }
 use Rattle.duty_lists.proofs.take_duties.Goals as goal
 use Rattle.duty_lists.proofs.take_duties.Goals.{Else-not-is_within, Else-not-is_within-2, Start}
@@ -74,3 +76,18 @@ returns c =
     let many = length_duties x.services x.periods in
     sym (ranges_taken x (past (goal.at.returns c).Else-not-is_within-2) c.bad_range-bad.result c.bad_range-bad.ensures
     (omega (arith, many)))
+
+-- past them all the lists are those of duties that were taken
+pub invariant_of-result : goal.invariant_of-result
+invariant_of-result c =
+    let x = asked-3 (goal.at.invariant_of-result c).Else-not-is_within-2 in
+    let counts = past (goal.at.invariant_of-result c).Else-not-is_within-2 in
+    let many = length_duties x.services x.periods in
+    let told : taken x ≡ answer (duty_set x) = ranges_taken x counts c.bad_range-bad.result c.bad_range-bad.ensures (omega (arith, many)) in (
+      counts.lengths,
+      record {
+        some = rw many counts.duties.0;
+        few = rw many counts.duties.1;
+        ranged = (taken_told x (duty_set x) told).0.ranges;
+      },
+    )

@@ -1,20 +1,9 @@
 -- `gcd_of` by Euclid's steps: the loop keeps the greatest common divisor of its two numbers, and the second falls.
-use mathlib.Core.Path.{◌≡◌, refl, sym, ap, ◌∙◌}
-use native.Mathlib.Nat.{mod-lt}
+use mathlib.Core.Path.{◌≡◌, sym, ap, ◌∙◌}
 use native.Mathlib.Omega.{arith}
 use Rattle.laws.specs.Divisor.{gcd}
 use Rattle.laws.proofs.Divisor.{gcd-zero, gcd_step}
 use Rattle.slices.proofs.gcd_of.Goals as goal
-
-pub loop-y-init : goal.loop-y-init
-loop-y-init c = refl
-
-pub nonzero_rem-rest : goal.nonzero_rem-rest
-nonzero_rem-rest c = omega arith
-
--- a remainder is below its divisor
-pub loop-y-smaller : goal.loop-y-smaller
-loop-y-smaller c = mod-lt c.loop-y.x (omega arith)
 
 pub loop-y-preserved : goal.loop-y-preserved
 loop-y-preserved c = sym (gcd_step c.loop-y.x c.loop-y.y (omega arith)) ∙ c.loop-y.invariant

@@ -4,4 +4,4 @@ use Rattle.slices.proofs.Shares.{whole_is}
 use Rattle.slices.proofs.is_whole.Goals as goal
 
 pub returns : goal.returns
-returns c = rw c.scaled.ensures.0 (sym (whole_is _ _))
+returns c = rw (c.scaled.ensures.0, c.from.ensures) (sym (whole_is _ _))
