@@ -1,22 +1,23 @@
--- `held`: by the run that was found.
+-- `held`: a run that does not have the unit leaves it to those after it, the first that has it holds it, and past the last it is idle.
 use mathlib.Core.Path.{sym, ap, ◌∙◌}
-use borrow.Author.Rules.{rules}
+use native.Mathlib.Omega.{arith}
+use Rattle.std.specs.Prelude.{Some}
 use Rattle.paper.specs.declared.Run.{Run}
-use Rattle.paper.specs.declared.Held.TheVariants.{By}
-use Rattle.record_read.specs.Formed.{table_of}
-use Rattle.record_read.proofs.Table.{table_runs}
-use Rattle.unit_holder.proofs.Finding.{held_found, held_not_found}
+use Rattle.paper.specs.Words.{covers}
+use Rattle.paper.proofs.Holding.{held_from_yes, held_from_no, held_from_end}
 use Rattle.unit_holder.proofs.held.Goals as goal
 
-pub returns-then-k-rd : goal.returns-then-k-rd
-returns-then-k-rd c =
-    let find-run = c.find_run-k in
-    ap (λ (x : Run). By x.duty) c.run_of-x.ensures.0 ∙ sym
-    (held_found (table_of c.args.b.now c.args.rd).runs _ _ c.args.rd.runs find-run.result
-    (sym (table_runs _ c.args.rd)) find-run.ensures (search rules))
+pub returns-then-run_covers : goal.returns-then-run_covers
+returns-then-run_covers c =
+    let told = c.run-x.ensures.told in
+    let has = ap (λ (x : Run). covers x c.args.row c.args.unit) (sym told) ∙ sym c.run_covers.ensures ∙ c.if-run_covers.true in
+    ap (λ (x : Run). Some x.duty) told ∙ sym (c.loop-k.invariant ∙ held_from_yes c.args.table.now.runs _ _ c.loop-k.k (omega arith) has)
 
-pub returns-else-k-rd : goal.returns-else-k-rd
-returns-else-k-rd c =
-    let find-run = c.find_run-k in
-    sym (held_not_found (table_of c.args.b.now c.args.rd).runs _ _ c.args.rd.runs find-run.result
-    (sym (table_runs _ c.args.rd)) find-run.ensures (search rules))
+pub loop-k-preserved : goal.loop-k-preserved
+loop-k-preserved c =
+    let told = c.run-x.ensures.told in
+    let lacks = ap (λ (x : Run). covers x c.args.row c.args.unit) (sym told) ∙ sym c.run_covers.ensures ∙ c.if-run_covers.false in
+    c.loop-k.invariant ∙ held_from_no c.args.table.now.runs _ _ c.loop-k.k (omega arith) lacks
+
+pub returns : goal.returns
+returns c = sym (c.loop-k.invariant ∙ held_from_end c.args.table.now.runs _ _ c.loop-k.k (omega arith))
