@@ -13,7 +13,3 @@ once-round n m h l = let z : n ≡ m + (n - m) = omega arith in ap (λ k. k % m)
 
 pub returns-then-on-length : goal.returns-then-on-length
 returns-then-on-length c = ap row (ap (λ n. c.args.turned.chain.first.0 + n) (sym (mod-eq_of_lt (search rules))))
-
-pub returns : goal.returns
-returns c = ap row
-    (ap (λ n. c.args.turned.chain.first.0 + n) (sym (once-round _ _ (search rules) (omega arith))))
