@@ -4,14 +4,15 @@
 
 ghost use Rattle.std.specs.Prelude.{◌≡◌, ◌+◌, ◌^◌, ◌<◌, ◌≤◌, length};
 ghost use Rattle.laws.specs.Digits.{num_at};
-ghost use Rattle.paper.specs.Limits.{small, most_duties, most_runs, head_length, duty_length, run_length};
-ghost use Rattle.paper.specs.Bytes.{duty_in, run_in, duty_place, run_place};
+ghost use Rattle.paper.specs.Limits.{small, most_ticks, most_duties, most_runs, head_length, duty_length, run_length};
+ghost use Rattle.paper.specs.Bytes.{duty_in, run_in, duty_place, run_place, read_table};
+ghost use Rattle.paper.specs.Outcome.{answer};
 ghost use Rattle.paper.specs.Duties.{duty_at};
-ghost use Rattle.paper.specs.Words.{run_at};
+ghost use Rattle.paper.specs.Words.{stop, covers, run_at};
 ghost use Rattle.paper.specs.Statements.{DutyRanged, RunRanged, Ranged};
 ghost use Rattle.paper.specs.Rules.{reading_of};
 ghost use Rattle.record_read.specs.Kinds.{kind_byte, kind_length};
-ghost use Rattle.record_read.specs.Formed.{IsHead, Formed, table_of};
+ghost use Rattle.record_read.specs.Formed.{IsHead, Formed};
 
 use paper::limits::{
     DUTY_KIND, DUTY_LENGTH, END_KIND, END_LENGTH, FIRST_FIELD, HEAD_KIND, HEAD_LENGTH,
@@ -118,6 +119,15 @@ pub fn read_run(b: &[u8], at: usize) -> Run
     }
 }
 
+// Whether a run is on the row and has the unit.
+#[tactic(auto, unfolding(paper::specs::Words::covers))]
+pub fn run_covers(x: Run, row: Row, unit: u32) -> bool
+    requires { stop x ≤ most_ticks }
+    ensures { result ≡ covers x row unit }
+{
+    (x.row == row) & (x.first <= unit) & (unit < x.first + x.length)
+}
+
 // Where the record of duty d stands.
 pub fn duty_place(d: usize) -> usize
     requires { d ≤ most_duties }
@@ -157,7 +167,7 @@ impl<'a> TableBytes<'a> {
     // Bytes in good form, and their reading.
     pub fn new(bytes: &'a [u8], reading: Reading) -> TableBytes<'a>
         requires { Formed bytes.now reading }
-        ensures { result ≡ table_of bytes.now reading }
+        ensures { answer result ≡ read_table bytes.now }
     {
         TableBytes { bytes, reading }
     }
@@ -165,6 +175,8 @@ impl<'a> TableBytes<'a> {
     // The block length, and how many engines, duties and runs there are.
     pub fn reading(&self) -> Reading
         ensures told { result ≡ reading_of self.now }
+        ensures fields { (result.block_length ≡ self.now.ticks) × (result.engines ≡ self.now.engines)
+            × (result.duties ≡ length self.now.duties) × (result.runs ≡ length self.now.runs) }
         ensures ranged { Ranged small self.now }
     {
         self.reading

@@ -4,10 +4,10 @@
 
 ghost use Rattle.std.specs.Prelude.{◌≡◌, ◌+◌, ◌≤◌, MatchOption, IsTrue, length, false, true, ◌&&◌};
 ghost use Rattle.paper.specs.Limits.{most_place, most_ticks, most_engines, most_duties, most_runs, small};
-ghost use Rattle.paper.specs.Bytes.{within, stands, duties_in, run_ranged, head_good, duty_good, run_good, end_good, duty_place, run_place};
+ghost use Rattle.paper.specs.Bytes.{within, stands, ticks_in, engines_in, duties_in, run_ranged, head_good, duty_good, run_good, end_good, duty_place, run_place};
 ghost use Rattle.record_read.specs.Kinds.{kind_byte, kind_length};
 
-use paper::Run;
+use paper::{Reading, Run};
 use paper::limits::{MOST_DUTIES, MOST_ENGINES};
 use record_read::{Head, Kind, duty_place, read_duty, read_field, read_head, read_run, run_place};
 use slices::{duty_in_range, is_within, period_in_range};
@@ -86,6 +86,20 @@ impl<'a> Headed<'a> {
         ensures few { result ≤ most_duties }
     {
         self.head.duties as usize
+    }
+
+    // What is read of a table with this head and so many runs.
+    pub fn reading(&self, runs: usize) -> Reading
+        requires { runs ≤ most_runs }
+        ensures { (result.block_length ≡ ticks_in self.now) × (result.engines ≡ engines_in self.now)
+            × (result.duties ≡ duties_in small self.now) × (result.runs ≡ runs) }
+    {
+        Reading {
+            block_length: self.head.block_length,
+            engines: self.head.engines,
+            duties: self.head.duties,
+            runs: runs as u32,
+        }
     }
 
     // Whether a good duty record stands in the place of duty d: a period in range, and a service from 1 to its period.
