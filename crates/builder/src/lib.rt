@@ -2,28 +2,33 @@
 // the refusals 6 to 8 and the table written, takes any block length.
 #![tactic(auto)]
 
-ghost use Rattle.std.specs.Prelude.{◌≡◌, ◌≤◌, length};
+ghost use Rattle.std.specs.Prelude.{length};
 ghost use Rattle.paper.specs.Outcome.{Writes};
-ghost use Rattle.paper.specs.Limits.{most_engines, most_ticks};
 ghost use Rattle.paper.specs.Wanted.{wanted};
 ghost use Rattle.builder.specs.BuildAt.{build_at};
 ghost use Rattle.paper.specs.Builder.{build as build_from};
 
-use duty_lists::{Duties, take_duties};
+use duty_lists::take_duties;
 use paper::Refusal;
-use sa1_measure::measure;
+use sa1_measure::Laying;
 use sa1_runs::fit_table;
 use sa1_table::put_table;
 use slices::length_meant;
 
 // The builder from refusal 6 on, for any block length in range. The answer is the table's length in bytes.
-fn build_fitting(t: u32, engines: u32, duties: &Duties, out: &mut [u8]) -> Result<usize, Refusal>
-    requires { (1 ≤ t) × (t ≤ most_ticks) × (engines ≤ most_engines) }
-    ensures { Writes (build_at t engines duties.now (length out.old)) result out.old out.new }
+fn build_fitting(laying: &Laying, out: &mut [u8]) -> Result<usize, Refusal>
+    ensures { Writes (build_at laying.now.ticks laying.now.engines laying.now.duties (length out.old)) result
+        out.old out.new }
 {
-    let laid = measure(t, duties)?;
-    let needed = fit_table(t, engines, duties.len(), laid, out.len())?;
-    put_table(out, t, engines, duties, laid.runs);
+    let laid = laying.measure()?;
+    let needed = fit_table(
+        laying.ticks(),
+        laying.engines(),
+        laying.duty_count(),
+        laid,
+        out.len(),
+    )?;
+    put_table(out, laying, laid.runs);
     Ok(needed)
 }
 
@@ -46,5 +51,5 @@ pub fn build(
     if greatest % t != 0 {
         return Err(Refusal::BlockLength);
     }
-    build_fitting(t, engines, &duties, out)
+    build_fitting(&Laying::new(t, engines, duties), out)
 }

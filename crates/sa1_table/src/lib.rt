@@ -4,15 +4,14 @@
 ghost use Rattle.std.specs.Prelude.{◌≡◌, ◌+◌, ◌*◌, ◌≤◌, length};
 ghost use Rattle.laws.specs.Lists.{over};
 ghost use Rattle.paper.specs.Sa1.{slices, sa1};
-ghost use Rattle.paper.specs.Limits.{small, most_ticks, run_length, table_length};
+ghost use Rattle.paper.specs.Limits.{small, run_length, table_length};
 ghost use Rattle.paper.specs.Bytes.{bytes_of};
 ghost use Rattle.sa1_runs.specs.Laying.{laid_at, laid_from, runs_at, corner};
 ghost use Rattle.sa1_table.specs.RunBytes.{runs_bytes, records_bytes, records_length};
 
-use duty_lists::Duties;
-use paper::Row;
 use paper::limits::{DUTY_LENGTH, HEAD_LENGTH, RUN_LENGTH};
 use record_write::{put_duty, put_end, put_head, put_run};
+use sa1_measure::Laying;
 use sa1_runs::{Place, Slice};
 use slices::share_of;
 
@@ -34,21 +33,20 @@ fn put_duty_runs(out: &mut [u8], slice: &Slice, i: u32) -> usize
 
 // Writes the duties over the front of the lent rest and SA1's runs behind them, a duty's record and its runs by turns, each where the last
 // of its kind stopped. Answers how many bytes they have.
-fn put_records(out: &mut [u8], t: u32, duties: &Duties) -> usize
-    requires { (1 ≤ t) × (t ≤ most_ticks) × (records_length t duties.now ≤ length out.old) }
-    ensures { (out.new ≡ over (records_bytes t duties.now) out.old) × (result ≡ records_length t duties.now) }
+fn put_records(out: &mut [u8], laying: &Laying) -> usize
+    requires { records_length laying.now.ticks laying.now.duties ≤ length out.old }
+    ensures { (out.new ≡ over (records_bytes laying.now.ticks laying.now.duties) out.old)
+        × (result ≡ records_length laying.now.ticks laying.now.duties) }
 {
-    let count = duties.len();
+    let ticks = laying.ticks();
+    let count = laying.duty_count();
     let mut at = DUTY_LENGTH * count;
-    let mut place = Place {
-        row: Row(0),
-        unit: 0,
-    };
+    let mut place = Place::CORNER;
     for i in 0..count {
-        let x = duties.duty(i);
+        let x = laying.duty(i);
         let record = DUTY_LENGTH * i;
         put_duty(&mut out[record..], x);
-        let slice = Slice::new(t, share_of(t, x).units, place);
+        let slice = Slice::new(ticks, share_of(ticks, x).units, place);
         // `as`, since it is proved that nothing is lost: `u32::try_from` would have an error that cannot come.
         at += put_duty_runs(&mut out[at..], &slice, i as u32);
         place = slice.after();
@@ -56,14 +54,19 @@ fn put_records(out: &mut [u8], t: u32, duties: &Duties) -> usize
     at
 }
 
-// Writes SA1's table over the front of a buffer that has the room: head, duties, runs, end. The block length is any in range.
-pub fn put_table(out: &mut [u8], t: u32, engines: u32, duties: &Duties, runs: usize)
-    requires { (1 ≤ t) × (t ≤ most_ticks) × (runs ≡ length (laid_from t (slices t duties.now) 0 corner))
-        × (runs ≤ 2 * length duties.now) × (table_length small (length duties.now) runs ≤ length out.old) }
-    ensures { out.new ≡ over (bytes_of (sa1 t engines duties.now)) out.old }
+// Writes SA1's table over the front of a buffer that has the room: head, duties, runs, end.
+pub fn put_table(out: &mut [u8], laying: &Laying, runs: usize)
+    requires { (runs ≡ length (laid_from laying.now.ticks (slices laying.now.ticks laying.now.duties) 0 corner))
+        × (runs ≤ 2 * length laying.now.duties) × (table_length small (length laying.now.duties) runs ≤ length out.old) }
+    ensures { out.new ≡ over (bytes_of (sa1 laying.now.ticks laying.now.engines laying.now.duties)) out.old }
 {
     // `as` here too.
-    put_head(out, t, engines, duties.len() as u32);
-    let end = HEAD_LENGTH + put_records(&mut out[HEAD_LENGTH..], t, duties);
+    put_head(
+        out,
+        laying.ticks(),
+        laying.engines(),
+        laying.duty_count() as u32,
+    );
+    let end = HEAD_LENGTH + put_records(&mut out[HEAD_LENGTH..], laying);
     put_end(&mut out[end..], runs as u32);
 }

@@ -3,12 +3,11 @@
 use mathlib.Core.Path.{◌≡◌, sym, ap, ◌∙◌}
 use Rattle.std.proofs.lemmas.Result.{err_from_is_err_and}
 use lib.ListN.{length}
-use mathlib.Core.List.{List}
-use Rattle.paper.specs.declared.Duty.{Duty}
 use Rattle.paper.specs.Words.{block_length_of}
 use Rattle.paper.specs.Wanted.{Wanted, wanted, duty_set}
 use Rattle.paper.proofs.Outcomes.{writes_same, writes_refused}
 use Rattle.plan_laws.proofs.TakenWhen.{Taken, taken_told}
+use Rattle.sa1_measure.specs.Layings.{Laid, laying}
 use Rattle.builder.specs.BuildAt.{build_at}
 use Rattle.builder.proofs.AfterTaken.{not_built, Lengths, meant_some, refusal_24, within_past, past_24}
 use Rattle.builder.proofs.build.Goals as goal
@@ -46,9 +45,9 @@ returns-then-greatest-t-ne0 c =
     writes_refused _ _
     (refusal_24 (known (goal.at.returns-then-greatest-t-ne0 c).After-length_meant-t) (length c.args.out.now) c.if-greatest-t-ne0.true)
 
-pub build_fitting-requires : goal.build_fitting-requires
-build_fitting-requires c =
-    let k = known (goal.at.build_fitting-requires c).After-length_meant-t in
+pub new-requires : goal.new-requires
+new-requires c =
+    let k = known (goal.at.new-requires c).After-length_meant-t in
     let within = within_past k c.if-greatest-t-ne0.false in
     (within.0, within.1, k.takes.counts.engines.1)
 
@@ -56,5 +55,6 @@ pub returns : goal.returns
 returns c =
     let at-t = (goal.at.returns c).After-length_meant-t in
     let room = length c.args.out.now in
-    let same = ap (λ (ds : List Duty). build_at c.length_meant-t.result c.args.engines ds room) (sym (takes at-t).1) in
+    let same = ap (λ (l : Laid). build_at l.ticks l.engines l.duties room)
+    (sym (c.new.ensures ∙ ap (laying c.length_meant-t.result c.args.engines) (takes at-t).1)) in
     writes_same (past_24 (known at-t) room c.if-greatest-t-ne0.false ∙ same) c.build_fitting.ensures

@@ -14,12 +14,16 @@ use Rattle.sa1_table.proofs.put_table.Goals as goal
 
 pub returns : goal.returns
 returns c =
-    let a = c.args in
-    let ds = a.duties.now in
-    let n = c.len.result in
-    let W = records_bytes a.t ds in
+    let out = c.args.out.now in
+    let runs = c.args.runs in
+    let t = c.args.laying.now.ticks in
+    let m = c.args.laying.now.engines in
+    let ds = c.args.laying.now.duties in
+    let n = c.duty_count.result in
+    let W = records_bytes t ds in
     let end-place = head_length small + c.put_records-end.result in
-    let long : head_length small + length W ≡ end-place = omega (arith, records_length_lem a.t ds, c.put_records-end.ensures.1) in
-    parts-written (head_of a.t a.engines n) W (end_bytes a.runs) a.out.now _ _ _ (head_length small) end-place
-    (head_of_length a.t a.engines n) long c.put_head.ensures c.put_records-end.ensures.0 c.put_end.ensures
-    ∙ ap (λ (w : List ℕ). over w a.out.now) (sym (table_is a.t a.engines n a.runs ds c.len.ensures.count c.requires.2))
+    let long : head_length small + length W ≡ end-place = omega (arith, records_length_lem t ds, c.put_records-end.ensures.1) in
+    let headed = rw (c.ticks.ensures.value, c.engines.ensures) at c.put_head.ensures in
+    parts-written (head_of t m n) W (end_bytes runs) out _ _ _ (head_length small) end-place (head_of_length t m n) long headed
+    c.put_records-end.ensures.0 c.put_end.ensures
+    ∙ ap (λ (w : List ℕ). over w out) (sym (table_is t m n runs ds c.duty_count.ensures.value c.requires.0))

@@ -16,18 +16,18 @@ use Rattle.duty_lists.proofs.Slices.{total_left, total_none}
 use Rattle.sa1_runs.specs.Laying.{place_after, units_to}
 use Rattle.sa1_runs.proofs.Laying.{units_after}
 use Rattle.sa1_measure.proofs.LaidLeft.{count_left, count_none}
-use Rattle.sa1_measure.proofs.measure.Goals as goal
-use Rattle.sa1_measure.proofs.measure.Goals.{After-share_of-share}
+use Rattle.sa1_measure.proofs.Laying.measure.Goals as goal
+use Rattle.sa1_measure.proofs.Laying.measure.Goals.{After-share_of-share}
 
 -- what the rest of a share tells of its slice
 told :
     (c : After-share_of-share)
-    → whole c.args.t (duty_at c.args.duties.now c.loop-i.i) ≡ eqb c.share_of-share.result.rest 0
-told c = rw (← c.duty.ensures.value) c.share_of-share.ensures.3
+    → whole c.args.self.now.ticks (duty_at c.args.self.now.duties c.loop-i.i) ≡ eqb c.share_of-share.result.rest 0
+told c = rw (← c.duty.ensures.value, ← c.ticks-ticks.ensures.value) c.share_of-share.ensures.3
 
 pub returns-then-share-gt0 : goal.returns-then-share-gt0
 returns-then-share-gt0 c =
-    let here : c.loop-i.i < length c.args.duties.now = omega (arith, c.loop-i-test.true, c.len-i-end.ensures.count) in
+    let here : c.loop-i.i < length c.args.self.now.duties = omega (arith, c.loop-i-test.true, c.duty_count-i-end.ensures.value) in
     let broken = ap not
     (told (goal.at.returns-then-share-gt0 c).After-share_of-share ∙ ne_eqb c.share_of-share.result.rest 0 (search rules)) in
     let found = seek_hit c.loop-i.invariant.0 here broken in
@@ -36,17 +36,18 @@ returns-then-share-gt0 c =
 pub loop-i-preserved : goal.loop-i-preserved
 loop-i-preserved c =
     let loop = c.loop-i in
-    let t = c.args.t in
-    let ds = c.args.duties.now in
-    let h : loop.i < length ds = omega (arith, c.loop-i-test.true, c.len-i-end.ensures.count) in
+    let t = c.args.self.now.ticks in
+    let ds = c.args.self.now.duties in
+    let same = c.ticks-ticks.ensures.value in
+    let h : loop.i < length ds = omega (arith, c.loop-i-test.true, c.duty_count-i-end.ensures.value) in
     let n = c.share_of-share.result.units in
-    let laid : n ≡ slice t (duty_at ds loop.i) = c.share_of-share.ensures.0 ∙ ap (slice t) c.duty.ensures.value in
+    let laid : n ≡ slice t (duty_at ds loop.i) = rw (← same, ← c.duty.ensures.value) c.share_of-share.ensures.0 in
     let Whole-here =
     ap not (told (goal.at.loop-i-preserved c).After-share_of-share
     ∙ eq-eqb c.share_of-share.result.rest 0 (omega (arith, c.if-share-gt0.false))) in
-    let next : c.after-place.result ≡ place_after t n loop.place = rw c.new-slice.ensures at c.after-place.ensures.value in
-    let inside = rw c.new-slice.ensures at c.after-place.ensures.inside in
-    let runs = rw c.new-slice.ensures at c.runs-runs.ensures in
+    let next : c.after-place.result ≡ place_after t n loop.place = rw (c.new-slice.ensures, same) at c.after-place.ensures.value in
+    let inside = rw (c.new-slice.ensures, same) at c.after-place.ensures.inside in
+    let runs = rw (c.new-slice.ensures, same) at c.runs-runs.ensures in
     let moves = ap (units_to t) next ∙ units_after t n loop.place in (
       seek_more loop.invariant.0 h Whole-here,
       omega (arith, runs),
@@ -59,14 +60,15 @@ loop-i-preserved c =
 pub returns : goal.returns
 returns c =
     let loop = c.loop-i in
-    let ds = c.args.duties.now in
-    let all : length ds ≤ loop.i = omega (arith, c.loop-i-test.false, c.len-i-end.ensures.count) in
+    let t = c.args.self.now.ticks in
+    let ds = c.args.self.now.duties in
+    let all : length ds ≤ loop.i = omega (arith, c.loop-i-test.false, c.duty_count-i-end.ensures.value) in
     let within = loop.invariant.0.within in
     record {
       all_whole = omega (arith, seek_miss loop.invariant.0 all, all);
-      counted = omega (arith, count_none c.args.t ds loop.i loop.place all);
+      counted = omega (arith, count_none t ds loop.i loop.place all);
       most_runs_lem = omega (arith, within);
-      total = omega (arith, total_none c.args.t ds loop.i all);
+      total = omega (arith, total_none t ds loop.i all);
       unit_below = loop.invariant.2;
       row_most = omega (arith, within);
     }
