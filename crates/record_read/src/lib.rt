@@ -2,49 +2,70 @@
 // little-endian. And what bytes in good form give to those who read on: where each record stands, and the duties and runs in them.
 #![tactic(auto)]
 
-ghost use Rattle.std.specs.Prelude.{◌≡◌, ◌+◌, ◌<◌, ◌≤◌, length};
+ghost use Rattle.std.specs.Prelude.{◌≡◌, ◌+◌, ◌^◌, ◌<◌, ◌≤◌, length};
 ghost use Rattle.laws.specs.Digits.{num_at};
-ghost use Rattle.paper.specs.Limits.{small, most_duties, most_runs, head_length, duty_length, run_length};
-ghost use Rattle.paper.specs.Bytes.{duty_in, run_in, duty_place, run_place};
+ghost use Rattle.paper.specs.Limits.{small, most_ticks, most_duties, most_runs, head_length, duty_length, run_length};
+ghost use Rattle.paper.specs.Bytes.{duty_in, run_in, duty_place, run_place, read_table};
+ghost use Rattle.paper.specs.Outcome.{answer};
 ghost use Rattle.paper.specs.Duties.{duty_at};
-ghost use Rattle.paper.specs.Words.{run_at};
+ghost use Rattle.paper.specs.Words.{stop, covers, run_at};
 ghost use Rattle.paper.specs.Statements.{DutyRanged, RunRanged, Ranged};
 ghost use Rattle.paper.specs.Rules.{reading_of};
-ghost use Rattle.record_read.specs.Formed.{IsHead, Formed, table_of};
+ghost use Rattle.record_read.specs.Kinds.{kind_byte, kind_length};
+ghost use Rattle.record_read.specs.Formed.{IsHead, Formed};
 
-use paper::limits::{DUTY_LENGTH, FIRST_FIELD, HEAD_LENGTH, LENGTH_FIELD, RUN_LENGTH};
+use paper::limits::{
+    DUTY_KIND, DUTY_LENGTH, END_KIND, END_LENGTH, FIRST_FIELD, HEAD_KIND, HEAD_LENGTH,
+    LENGTH_FIELD, RUN_KIND, RUN_LENGTH,
+};
 use paper::{Duty, Reading, Row, Run};
 use std::marker::Model;
 
-// A byte as a wider number.
-fn wide(x: u8) -> u32
-    ensures { (result ≡ x) × (result < 256) }
-{
-    x as u32
+// The kinds of records.
+#[derive(Clone, Copy)]
+pub enum Kind {
+    Head,
+    Duty,
+    Run,
+    End,
 }
 
-// A field of one byte.
-pub fn read_one(b: &[u8], at: usize) -> u32
-    requires { at < length b.now }
-    ensures { (result ≡ num_at 1 b.now at) × (result < 256) }
-{
-    wide(b[at])
+impl Kind {
+    // The byte that a record of the kind begins with.
+    pub fn byte(self) -> u8
+        ensures { result ≡ kind_byte self }
+    {
+        match self {
+            Kind::Head => HEAD_KIND,
+            Kind::Duty => DUTY_KIND,
+            Kind::Run => RUN_KIND,
+            Kind::End => END_KIND,
+        }
+    }
+
+    // How many bytes a record of the kind has, that byte with them.
+    pub fn length(self) -> usize
+        ensures { result ≡ kind_length self }
+    {
+        match self {
+            Kind::Head => HEAD_LENGTH,
+            Kind::Duty => DUTY_LENGTH,
+            Kind::Run => RUN_LENGTH,
+            Kind::End => END_LENGTH,
+        }
+    }
 }
 
-// A field of two bytes.
-pub fn read_two(b: &[u8], at: usize) -> u32
-    requires { at + 1 < length b.now }
-    ensures { (result ≡ num_at 2 b.now at) × (result < 65536) }
+// A field of N bytes.
+pub fn read_field<const N: usize>(b: &[u8], at: usize) -> u32
+    requires short { N ≤ 4 }
+    requires there { at + N ≤ length b.now }
+    ensures told { result ≡ num_at N b.now at }
+    ensures bounded { result < 256 ^ N }
 {
-    wide(b[at]) + 256 * wide(b[at + 1])
-}
-
-// A field of four bytes.
-pub fn read_four(b: &[u8], at: usize) -> u32
-    requires { at + 3 < length b.now }
-    ensures { result ≡ num_at 4 b.now at }
-{
-    wide(b[at]) + 256 * (wide(b[at + 1]) + 256 * (wide(b[at + 2]) + 256 * wide(b[at + 3])))
+    let mut field = [0u8; 4];
+    field[..N].copy_from_slice(&b[at..at + N]);
+    u32::from_le_bytes(field)
 }
 
 // What a table's head holds: the block length, and how many engines and duties there are.
@@ -60,9 +81,9 @@ pub fn read_head(b: &[u8]) -> Head
     requires { head_length small ≤ length b.now }
     ensures { IsHead b.now result }
 {
-    let block_length = read_four(b, 1);
-    let engines = read_one(b, 5);
-    let duties = read_one(b, 6);
+    let block_length = read_field::<4>(b, 1);
+    let engines = read_field::<1>(b, 5);
+    let duties = read_field::<1>(b, 6);
     Head {
         block_length,
         engines,
@@ -71,12 +92,13 @@ pub fn read_head(b: &[u8]) -> Head
 }
 
 // The duty in the record at an offset.
+#[tactic(auto, unfolding(paper::specs::Bytes::duty_in))]
 pub fn read_duty(b: &[u8], at: usize) -> Duty
     requires { at + duty_length ≤ length b.now }
     ensures { result ≡ duty_in b.now at }
 {
-    let service = read_four(b, at + 1);
-    let period = read_four(b, at + 5);
+    let service = read_field::<4>(b, at + 1);
+    let period = read_field::<4>(b, at + 5);
     Duty { service, period }
 }
 
@@ -85,16 +107,25 @@ pub fn read_run(b: &[u8], at: usize) -> Run
     requires { at + run_length small ≤ length b.now }
     ensures { result ≡ run_in small b.now at }
 {
-    let row = read_one(b, at + 1);
-    let duty = read_one(b, at + 2);
-    let first = read_four(b, at + FIRST_FIELD);
-    let length = read_four(b, at + LENGTH_FIELD);
+    let row = read_field::<1>(b, at + 1);
+    let duty = read_field::<1>(b, at + 2);
+    let first = read_field::<4>(b, at + FIRST_FIELD);
+    let length = read_field::<4>(b, at + LENGTH_FIELD);
     Run {
         row: Row(row),
         duty,
         first,
         length,
     }
+}
+
+// Whether a run is on the row and has the unit.
+#[tactic(auto, unfolding(paper::specs::Words::covers))]
+pub fn run_covers(x: Run, row: Row, unit: u32) -> bool
+    requires { stop x ≤ most_ticks }
+    ensures { result ≡ covers x row unit }
+{
+    (x.row == row) & (x.first <= unit) & (unit < x.first + x.length)
 }
 
 // Where the record of duty d stands.
@@ -136,7 +167,7 @@ impl<'a> TableBytes<'a> {
     // Bytes in good form, and their reading.
     pub fn new(bytes: &'a [u8], reading: Reading) -> TableBytes<'a>
         requires { Formed bytes.now reading }
-        ensures { result ≡ table_of bytes.now reading }
+        ensures { answer result ≡ read_table bytes.now }
     {
         TableBytes { bytes, reading }
     }
@@ -144,6 +175,8 @@ impl<'a> TableBytes<'a> {
     // The block length, and how many engines, duties and runs there are.
     pub fn reading(&self) -> Reading
         ensures told { result ≡ reading_of self.now }
+        ensures fields { (result.block_length ≡ self.now.ticks) × (result.engines ≡ self.now.engines)
+            × (result.duties ≡ length self.now.duties) × (result.runs ≡ length self.now.runs) }
         ensures ranged { Ranged small self.now }
     {
         self.reading

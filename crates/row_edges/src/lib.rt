@@ -3,37 +3,53 @@
 #![tactic(auto)]
 
 ghost use Rattle.std.specs.Prelude.{◌≡◌, ◌≤◌, ◌<◌};
+ghost use Rattle.paper.specs.Duties.{same};
 ghost use Rattle.paper.specs.Limits.{most_engines};
-ghost use Rattle.row_edges.specs.Links.{same_code, first_edge, last_edge, link_of};
+ghost use Rattle.row_edges.specs.Links.{first_edge, last_edge, link_of};
 
-use paper::Row;
-use paper::limits::EDGES;
+use paper::limits::MOST_ENGINES;
+use paper::{Held, Row};
+
+// All rows that have edges: those that there may be, and one past them, which is idle.
+pub const EDGE_ROWS: usize = MOST_ENGINES + 1;
+
+// What holds the first and the last unit of a row.
+#[derive(Clone, Copy)]
+pub struct RowEdges {
+    pub first: Held,
+    pub last: Held,
+}
+
+// The edges of all rows.
+pub type Edges = [RowEdges; EDGE_ROWS];
 
 // Whether one duty holds both, of two edges.
-pub fn same_duty(g: u32, h: u32) -> bool
-    ensures { result ≡ same_code g h }
+#[tactic(auto, unfolding(paper::specs::Duties::same))]
+pub fn same_duty(g: Held, h: Held) -> bool
+    ensures { result ≡ same g h }
 {
-    (g != 0) & (g == h)
+    g.is_some() && g == h
 }
 
 // What holds the first unit of a row.
-pub fn first_edge(edges: &[u32; EDGES], row: Row) -> u32
+pub fn first_edge(edges: &Edges, row: Row) -> Held
     requires { row.0 ≤ most_engines }
     ensures { result ≡ first_edge edges.now row.0 }
 {
-    edges[2 * row.0 as usize]
+    edges[row.0 as usize].first
 }
 
 // What holds the last unit of a row.
-pub fn last_edge(edges: &[u32; EDGES], row: Row) -> u32
+pub fn last_edge(edges: &Edges, row: Row) -> Held
     requires { row.0 ≤ most_engines }
     ensures { result ≡ last_edge edges.now row.0 }
 {
-    edges[2 * row.0 as usize + 1]
+    edges[row.0 as usize].last
 }
 
 // Whether the row after this one is chained to it.
-pub fn linked(edges: &[u32; EDGES], row: Row) -> bool
+#[tactic(auto, unfolding(crate::specs::Links::link_of))]
+pub fn linked(edges: &Edges, row: Row) -> bool
     requires { row.0 < most_engines }
     ensures { result ≡ link_of edges.now row.0 }
 {

@@ -10,8 +10,8 @@ use Rattle.sa1_runs.specs.Fitting.{fitted_by}
 
 module _ (have laid needed room : ℕ) where
   -- what is answered is what is needed, and there is the room
-  pub fitted_told : (k : ℕ) → fitted_by have laid needed room ≡ answer k → (k ≡ needed) × (needed ≤ room)
+  pub fitted_told : (k : ℕ) → answer k ≡ fitted_by have laid needed room → (k ≡ needed) × (needed ≤ room)
   fitted_told k e =
-      let fits = (past (ltb have laid) 7 0 _ k e).1 in
+      let fits = (past (ltb have laid) 7 0 _ k (sym e)).1 in
       let z = past (ltb room needed) 8 needed _ k fits in
       (sym (answer_one needed k z.1), ltb-false room needed z.0)

@@ -50,9 +50,6 @@ runs_one t n u e = lt_or_le t (u + n) (λ h. omega (arith, runs_split t n u h)) 
 pub runs_two : (t n u : ℕ) → (runs_at t n u ≡ 1 → ⊥) → (t < u + n) × (runs_at t n u ≡ 2)
 runs_two t n u f = lt_or_le t (u + n) (λ h. (h, runs_split t n u h)) (λ h. absurd (f (runs_whole t n u h)))
 
-pub runs_least : (t n u : ℕ) → 1 ≤ runs_at t n u
-runs_least t n u = lt_or_le t (u + n) (λ h. omega (arith, runs_split t n u h)) (λ h. omega (arith, runs_whole t n u h))
-
 -- which runs they are, and how many
 module _ (t n i : ℕ) (p : Place) where
   laid_by :

@@ -19,6 +19,14 @@ pub struct Place {
     pub unit: u32,
 }
 
+impl Place {
+    // Unit 0 of row 0, where SA1 begins.
+    pub const CORNER: Place = Place {
+        row: Row(0),
+        unit: 0,
+    };
+}
+
 // A duty's slice of so many units, at most those of a row, from a place on, where a row has `ticks` units.
 #[derive(Drop)]
 pub struct Slice {

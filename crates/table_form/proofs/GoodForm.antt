@@ -1,48 +1,87 @@
--- What a good form gives. Where the reader answers a reading, the bytes read as a table, so each record passed its test (`parsed`); the
--- reading is that of the table which stands in the bytes.
+-- What the tests of a table's bytes come to, one after another: each that fails is the reader's fault, and where none fails the bytes are in
+-- good form. `l` is the bytes once more, as the value that has a good head is seen.
 -- Assumes nothing.
-use Prim.Native.Nat.{ℕ}
+use Prim.Native.Nat.{ℕ, ◌+◌, ◌≤◌, ◌<◌}
 use mathlib.Core.Path.{◌≡◌, refl, sym, ap, ◌∙◌}
+use mathlib.Core.Bool.{true, false, not}
 use mathlib.Core.List.{List}
 use native.Mathlib.Omega.{arith}
+use lib.ListN.{length}
+use borrow.Author.Tests.{lt-ltb, le-ltb}
 use Rattle.paper.specs.declared.Reading.{Reading}
-use Rattle.paper.specs.Outcome.{answer, and_then}
-use Rattle.paper.specs.Limits.{small}
-use Rattle.paper.specs.Bytes.{duties_in, good_runs, table_in, read_table}
-use Rattle.paper.specs.Rules.{reading_of}
-use Rattle.paper.proofs.Outcomes.{answer_one, then_answer}
+use Rattle.paper.specs.Limits.{small, end_length}
+use Rattle.paper.specs.Outcome.{refused, answer}
+use Rattle.paper.specs.Bytes.{ticks_in, engines_in, duties_in, head_good, end_good, bad_duty, good_runs, duty_place, run_place, after_runs}
+use Rattle.paper.specs.Bytes.{table_in, read_table}
+use Rattle.table_laws.proofs.Forms.{head_bad, head_good_lem, duty_bad, duties_good, end_bad, more_bytes, all_good}
 use Rattle.table_laws.proofs.Read.{InForm, parsed}
 use Rattle.record_read.specs.Formed.{Formed}
-use Rattle.record_read.proofs.Table.{reading_in, reading_in_lem}
 
--- bytes whose records all passed give what those who read on need
-in_form : (b : List ℕ) (n k : ℕ) → duties_in small b ≡ n → good_runs small b n ≡ k → InForm small b n k
-    → read_table b ≡ answer (table_in small b n k) → Formed b (reading_in b n k)
-in_form b n k d g F p =
+-- bytes that read as the table in them are in good form
+in_form : (b : List ℕ) (rd : Reading) → rd.block_length ≡ ticks_in b → rd.engines ≡ engines_in b → rd.duties ≡ duties_in small b
+    → rd.runs ≡ good_runs small b (duties_in small b)
+    → read_table b ≡ answer (table_in small b (duties_in small b) (good_runs small b (duties_in small b))) → Formed b rd
+in_form b rd t m d k p =
+    let F : InForm small b (duties_in small b) (good_runs small b (duties_in small b)) = (parsed small b _ p).0 in
     record {
-      ticks = refl;
-      engines = refl;
-      duties = sym d;
-      runs = sym g;
-      ticks_least = F.head.ticks.0;
-      ticks_most = F.head.ticks.1;
-      engines_least = F.head.engines.0;
-      engines_most = F.head.engines.1;
-      duties_least = rw (← d) F.head.duties.0;
-      duties_most = rw (← d) F.head.duties.1;
-      runs_most = F.few;
-      long = omega (arith, F.last.0.room, F.no_more);
-      duty_ranged_lem = λ i h. (F.each_duty i h).1;
-      run_ranged_lem = λ j h. (F.each_run j h).1;
-      parsed = p;
+      ticks = t;
+      engines = m;
+      duties = d;
+      runs = rw d k;
+      ticks_least = rw t F.head.ticks.0;
+      ticks_most = rw t F.head.ticks.1;
+      engines_least = rw m F.head.engines.0;
+      engines_most = rw m F.head.engines.1;
+      duties_least = rw d F.head.duties.0;
+      duties_most = rw d F.head.duties.1;
+      runs_most = rw k F.few;
+      long = rw (d, k) (omega (arith, F.last.0.room, F.no_more));
+      duty_ranged_lem = λ i h. (F.each_duty i (rw d at h)).1;
+      run_ranged_lem = λ j h. rw (t, m, d) (F.each_run j (rw k at h)).1;
+      parsed = rw (d, k) p;
     }
 
--- the bytes that the reader answers a reading to have passed every test, and it is their reading
-pub formed : (b : List ℕ) (rd : Reading) → and_then (read_table b) (λ t. answer (reading_of t)) ≡ answer rd → Formed b rd
-formed b rd h =
-    let a = then_answer (read_table b) (λ t. answer (reading_of t)) rd h in
-    let n = duties_in small b in
-    let k = good_runs small b n in
-    let P = parsed small b a.0 a.1 in
-    let is : rd ≡ reading_in b n k = sym (answer_one (reading_of a.0) rd a.2) ∙ ap reading_of (sym P.1) ∙ reading_in_lem b n k in
-    rw is (in_form b n k refl refl P.0 (a.1 ∙ ap answer (sym P.1)))
+-- where a head that is no good is met
+pub head_fault : (b : List ℕ) → head_good small b ≡ false → refused 10 0 ≡ read_table b
+head_fault b h = sym (head_bad small b (ap not h))
+
+module _ {b l : List ℕ} (head : (l ≡ b) × (head_good small b ≡ true)) where
+  -- a duty record that is no good
+  pub duty_fault : {n d : ℕ} → n ≡ duties_in small l → d ≡ bad_duty small l (duties_in small l) → d < n
+      → refused 10 (duty_place small d) ≡ read_table b
+  duty_fault {n} {d} e f h =
+      let found : d ≡ bad_duty small b (duties_in small b) = rw head.0 at f in
+      let before : bad_duty small b (duties_in small b) < duties_in small b = omega (arith, found, rw head.0 at e) in
+      rw (head_good_lem small b (ap not head.1), duty_bad small b _ (lt-ltb _ _ before)) (ap (λ i. refused 10 (duty_place small i)) found)
+
+  module _ {n d k : ℕ} (count : n ≡ duties_in small l) (found : d ≡ bad_duty small l (duties_in small l)) (none : n ≤ d)
+      (runs : k ≡ good_runs small l (duties_in small l)) where
+    -- what is read where every duty record is good
+    ended : read_table b ≡ after_runs small b (duties_in small b) k
+    ended =
+        let past : duties_in small b ≤ bad_duty small b (duties_in small b) =
+        omega (arith, none, rw head.0 at found, rw head.0 at count) in
+        head_good_lem small b (ap not head.1) ∙ duties_good small b _ (le-ltb _ _ past) ∙ rw (rw head.0 at runs) refl
+
+    -- an end record that is no good
+    pub end_fault : end_good l (run_place small (duties_in small l) k) k ≡ false
+        → refused 10 (run_place small (duties_in small l) k) ≡ read_table b
+    end_fault h = rw ended (sym (rw head.0 (end_bad small b _ k (ap not (rw head.0 at h)))))
+
+    module _ (last : end_good l (run_place small (duties_in small l) k) k ≡ true) where
+      -- bytes after it
+      pub length_fault : run_place small (duties_in small l) k + end_length < length b
+          → refused 10 (run_place small (duties_in small l) k + end_length) ≡ read_table b
+      length_fault h = rw ended (sym (rw head.0 (more_bytes small b _ k (ap not (rw head.0 at last)) (lt-ltb _ _ (rw head.0 at h)))))
+
+      -- none
+      pub all_told : length b ≤ run_place small (duties_in small l) k + end_length
+          → read_table b ≡ answer (table_in small b (duties_in small b) k)
+      all_told h = ended ∙ all_good small b _ k (ap not (rw head.0 at last)) (le-ltb _ _ (rw head.0 at h))
+
+      -- and what is read of them is their form
+      pub formed : (rd : Reading) → rd.block_length ≡ ticks_in l → rd.engines ≡ engines_in l → rd.duties ≡ duties_in small l → rd.runs ≡ k
+          → length b ≤ run_place small (duties_in small l) k + end_length → Formed b rd
+      formed rd t m i r h =
+          let all : k ≡ good_runs small b (duties_in small b) = rw head.0 at runs in
+          in_form b rd (rw head.0 at t) (rw head.0 at m) (rw head.0 at i) (r ∙ all) (rw (← all) (all_told h))

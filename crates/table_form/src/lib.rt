@@ -3,91 +3,50 @@
 #![tactic(auto)]
 
 ghost use Rattle.std.specs.Prelude.{◌≡◌, ◌≤◌};
-ghost use Rattle.paper.specs.Outcome.{answer, and_then};
-ghost use Rattle.paper.specs.Limits.{small, most_duties, most_runs};
-ghost use Rattle.paper.specs.Bytes.{bad_duty, good_runs, after_runs, read_table};
-ghost use Rattle.paper.specs.Rules.{reading_of};
-ghost use Rattle.record_read.specs.Formed.{IsHead};
+ghost use Rattle.paper.specs.Limits.{small, most_runs};
+ghost use Rattle.paper.specs.Bytes.{duties_in, bad_duty, good_runs, read_table};
 ghost use Rattle.table_form.specs.FormAs.{form_as};
 
-use paper::Reading;
+use paper::Fault;
 use paper::limits::{END_LENGTH, MOST_RUNS};
-use record_read::{Head, duty_place, read_head, run_place};
-use record_tests::{duty_good, end_good, head_good, run_good};
+use record_read::{TableBytes, duty_place};
+use record_tests::Headed;
+use search::lowest;
 
-// What bytes come to: what a good form reads, or the offset of its fault.
-#[derive(Clone, Copy)]
-pub enum Form {
-    Good(Reading),
-    Fault(usize),
-}
-
-// The first of n duty records that is no good, or n.
-fn bad_duty(b: &[u8], n: usize) -> usize
-    requires { n ≤ most_duties }
-    ensures { result ≡ bad_duty small b.now n }
+// The first duty record that is no good, or how many there are.
+fn bad_duty(bytes: &Headed) -> usize
+    ensures { result ≡ bad_duty small bytes.now (duties_in small bytes.now) }
 {
-    let mut d = 0;
-    while d < n {
-        if !duty_good(b, duty_place(d)) {
-            return d;
-        }
-        d += 1;
-    }
-    d
+    lowest(0, bytes.duties(), |d| !bytes.duty_good(d))
 }
 
 // How many good runs stand after the duties, at most as many as a table may have.
-fn good_runs(b: &[u8], head: Head) -> usize
-    requires { IsHead b.now head × (head.duties ≤ most_duties) }
-    ensures { (result ≡ good_runs small b.now head.duties) × (result ≤ most_runs) }
+fn good_runs(bytes: &Headed) -> usize
+    ensures told { result ≡ good_runs small bytes.now (duties_in small bytes.now) }
+    ensures few { result ≤ most_runs }
 {
-    let mut k = 0;
-    while k < MOST_RUNS {
-        if !run_good(b, run_place(head.duties as usize, k), head) {
-            return k;
-        }
-        k += 1;
-    }
-    k
+    lowest(0, MOST_RUNS, |k| !bytes.run_good(k))
 }
 
-// The form of bytes whose head and duty records are good.
-fn form_of_runs(b: &[u8], head: Head) -> Form
-    requires { IsHead b.now head × (head.duties ≤ most_duties) }
-    ensures { form_as result
-        ≡ and_then (after_runs small b.now head.duties (good_runs small b.now head.duties))
-        (λ t. answer (reading_of t)) }
+// The form of any bytes: the table in them, or the first record that is no good.
+pub fn form_of(b: &[u8]) -> Result<TableBytes<'_>, Fault>
+    ensures { form_as result ≡ read_table b.now }
 {
-    let runs = good_runs(b, head);
-    let at = run_place(head.duties as usize, runs);
-    if !end_good(b, at, runs) {
-        return Form::Fault(at);
+    let Some(bytes) = Headed::new(b) else {
+        return Err(Fault::Form(0));
+    };
+    let d = bad_duty(&bytes);
+    if d < bytes.duties() {
+        return Err(Fault::Form(duty_place(d)));
+    }
+    let runs = good_runs(&bytes);
+    let at = bytes.run_place(runs);
+    if !bytes.end_good(runs) {
+        return Err(Fault::Form(at));
     }
     let end = at + END_LENGTH;
     if end < b.len() {
-        return Form::Fault(end);
+        return Err(Fault::Form(end));
     }
-    Form::Good(Reading {
-        block_length: head.block_length,
-        engines: head.engines,
-        duties: head.duties,
-        runs: runs as u32,
-    })
-}
-
-// The form of any bytes: their reading, or the first record that is no good.
-pub fn form_of(b: &[u8]) -> Form
-    ensures { form_as result ≡ and_then (read_table b.now) (λ t. answer (reading_of t)) }
-{
-    if !head_good(b) {
-        return Form::Fault(0);
-    }
-    let head = read_head(b);
-    let n = head.duties as usize;
-    let d = bad_duty(b, n);
-    if d < n {
-        return Form::Fault(duty_place(d));
-    }
-    form_of_runs(b, head)
+    Ok(TableBytes::new(b, bytes.reading(runs)))
 }

@@ -1,91 +1,73 @@
--- The edges as a loop over the runs makes them, from the last run to the first: each entry tells what the runs passed so far hold. One run
--- more changes the two entries of its own row, and these only where the run has the unit, for the first run that has it holds it.
+-- The edges as a loop over the runs makes them, from the last run to the first: each row's tell what the runs passed so far hold. One run
+-- more changes those of its own row, and these only where the run has the unit, for the first run that has it holds it.
 -- Assumes nothing.
-use Prim.Native.Nat.{ℕ, ◌+◌, ◌*◌, ◌-◌, ◌/◌, ◌%◌, ◌≤◌, ◌<◌}
+use Prim.Native.Nat.{ℕ, ◌+◌, ◌-◌, ◌≤◌, ◌<◌}
 use mathlib.Core.Path.{◌≡◌, refl, sym, ap, ◌∙◌}
-use mathlib.Core.Bool.{false, ◌&&◌}
+use mathlib.Core.Bool.{false}
 use mathlib.Core.List.{List}
 use native.Mathlib.Omega.{arith}
-use lib.Dec.{leb, ltb}
-use lib.ListN.{length, get_or, set, drop, replicate}
-use borrow.Author.Tests.{eq-eqb}
+use lib.ListN.{length, set, drop, replicate}
+use Rattle.std.specs.Prelude.{Some}
+use Rattle.std.proofs.lemmas.List.{get_or-replicate, length-replicate}
 use Rattle.laws.specs.Choice.{pick}
 use Rattle.laws.specs.Lists.{tab}
 use Rattle.laws.proofs.Cases.{by_cases, refuted}
-use Rattle.laws.proofs.Lists.{get_or-tab, tab_zeros, set_two}
+use Rattle.laws.proofs.Lists.{get_or-tab, tab_of, set_of}
 use Rattle.paper.specs.declared.Run.{Run}
-use Rattle.paper.specs.Limits.{most_engines, edge_count}
-use Rattle.paper.specs.Words.{row, stop, covers, run_at}
+use Rattle.paper.specs.Duties.{Held}
+use Rattle.paper.specs.Limits.{most_engines}
+use Rattle.paper.specs.Words.{row, covers, run_at, held_in}
 use Rattle.paper.proofs.Holding.{covers-row, held_from_yes, held_from_no, held_from_end}
-use Rattle.table_tally.specs.Tally.{code, edge_unit, edge_of}
-
--- a run covers a unit of its own row exactly where it has the unit
-pub covers_own : (x : Run) (u : ℕ) → covers x x.row u ≡ leb x.first u && ltb u (stop x)
-unfolding covers
-covers_own x u = rw (eq-eqb x.row.0 x.row.0 refl)
-
--- edge 2·r is the first unit of row r, edge 2·r + 1 its last
-pub first_place : (t r : ℕ) → ((2 * r) / 2 ≡ r) × (edge_unit t (2 * r) ≡ 0)
-first_place t r = let z : (2 * r) % 2 ≡ 0 = omega arith in (omega arith, rw z)
-
-pub last_place : (t r : ℕ) → ((2 * r + 1) / 2 ≡ r) × (edge_unit t (2 * r + 1) ≡ t - 1)
-last_place t r = let z : (2 * r + 1) % 2 ≡ 1 = omega arith in (omega arith, rw z)
+use Rattle.row_edges.specs.declared.RowEdges.{RowEdges}
+use Rattle.row_edges.specs.Links.{idle_edges, first_edge, last_edge}
+use Rattle.table_tally.specs.Tally.{edges_at}
 
 -- what the runs from k on hold at the edges
-abbrev edge_from : List Run → ℕ → ℕ → ℕ → ℕ
-edge_from xs t k = edge_of (drop k xs) t
-
-abbrev pub edges_from : List Run → ℕ → ℕ → List ℕ
-edges_from xs t k = tab edge_count (edge_from xs t k)
+abbrev pub edges_from : List Run → ℕ → ℕ → List RowEdges
+edges_from xs t k = tab (most_engines + 1) (edges_at (drop k xs) t)
 
 -- past the last run nothing is held
-pub edges_none : (xs : List Run) (t k : ℕ) → length xs ≤ k → replicate edge_count 0 ≡ edges_from xs t k
-edges_none xs t k h = tab_zeros edge_count (edge_from xs t k) (λ j. ap code (held_from_end xs (row (j / 2)) (edge_unit t j) k h))
+pub edges_none : (xs : List Run) (t k : ℕ) → length xs ≤ k → replicate (most_engines + 1) idle_edges ≡ edges_from xs t k
+edges_none xs t k h =
+    tab_of idle_edges (most_engines + 1) (edges_at (drop k xs) t) (replicate (most_engines + 1) idle_edges) (length-replicate _ idle_edges)
+    (λ r l. get_or-replicate (most_engines + 1) r idle_edges idle_edges l
+    ∙ rw (held_from_end xs (row r) 0 k h, held_from_end xs (row r) (t - 1) k h) refl)
 
 module _ (xs : List Run) (t k : ℕ) (x : Run) (h : k < length xs) (e : x ≡ run_at xs k) where
-  -- one run more, at the front: an edge where it has no unit stays, ..
-  edge_stays : (j : ℕ) → covers x (row (j / 2)) (edge_unit t j) ≡ false → edge_from xs t (k + 1) j ≡ edge_from xs t k j
-  edge_stays j q = sym (ap code (held_from_no xs (row (j / 2)) (edge_unit t j) k h (rw (← e) q)))
+  -- one run more, at the front: of its own row it holds the units that it has, ..
+  own : (u : ℕ) → pick (covers x x.row u) (Some x.duty) (held_in (drop (k + 1) xs) x.row u) ≡ held_in (drop k xs) x.row u
+  own u =
+      let same = ap (λ (y : Run). covers y x.row u) (sym e) in
+      by_cases (covers x x.row u)
+      (λ p. rw p (ap (λ (y : Run). Some y.duty) e ∙ sym (held_from_yes xs x.row u k h (same ∙ p))))
+      (λ p. rw p (sym (held_from_no xs x.row u k h (same ∙ p))))
 
-  -- .. so one of another row, ..
-  edge_other : (j : ℕ) → (j / 2 ≡ x.row.0 → ⊥) → edge_from xs t (k + 1) j ≡ edge_from xs t k j
-  edge_other j d =
-      edge_stays j (refuted (covers x (row (j / 2)) (edge_unit t j)) (λ q. d (sym (covers-row x (row (j / 2)) (edge_unit t j) q))))
-
-  -- .. and one of its own row becomes the run's where it has the unit
-  edge_own : (j u v : ℕ) → j / 2 ≡ x.row.0 → edge_unit t j ≡ u → v ≡ pick (covers x x.row u) (x.duty + 1) (edge_from xs t (k + 1) j)
-      → v ≡ edge_from xs t k j
-  edge_own j u v r w p =
-      by_cases (covers x (row (j / 2)) (edge_unit t j))
-      (λ q. p ∙ rw (here ∙ q)
-      (sym (ap code (held_from_yes xs (row (j / 2)) (edge_unit t j) k h (rw (← e) q)) ∙ ap (λ (y : Run). y.duty + 1) (sym e))))
-      (λ q. p ∙ rw (here ∙ q) (edge_stays j q))
-    where
-      here : covers x x.row u ≡ covers x (row (j / 2)) (edge_unit t j)
-      here = rw (r, w)
+  -- .. and of another row none
+  other : (i u : ℕ) → (i ≡ x.row.0 → ⊥) → held_in (drop (k + 1) xs) (row i) u ≡ held_in (drop k xs) (row i) u
+  other i u d =
+      let apart : covers x (row i) u ≡ false = refuted (covers x (row i) u) (λ q. d (sym (covers-row x (row i) u q))) in
+      sym (held_from_no xs (row i) u k h (rw e at apart))
 
   -- both edges of its row
-  pub edges_more : (v w : ℕ) → x.row.0 ≤ most_engines
-      → v ≡ pick (covers x x.row 0) (x.duty + 1) (get_or (edges_from xs t (k + 1)) (2 * x.row.0) 0)
-      → w ≡ pick (covers x x.row (t - 1)) (x.duty + 1) (get_or (edges_from xs t (k + 1)) (2 * x.row.0 + 1) 0)
-      → set (set (edges_from xs t (k + 1)) (2 * x.row.0) v) (2 * x.row.0 + 1) w ≡ edges_from xs t k
+  edges_more : (v w : Held) → x.row.0 ≤ most_engines
+      → v ≡ pick (covers x x.row 0) (Some x.duty) (first_edge (edges_from xs t (k + 1)) x.row.0)
+      → w ≡ pick (covers x x.row (t - 1)) (Some x.duty) (last_edge (edges_from xs t (k + 1)) x.row.0)
+      → set (edges_from xs t (k + 1)) x.row.0 (record { first = v; last = w }) ≡ edges_from xs t k
   edges_more v w few p q =
-      let at = 2 * x.row.0 in
-      let f = edge_from xs t (k + 1) in
-      let first = first_place t x.row.0 in
-      let last = last_place t x.row.0 in
-      set_two edge_count at v w f (edge_from xs t k) (omega arith)
-      (edge_own at 0 v first.0 first.1 (p ∙ ap (pick (covers x x.row 0) (x.duty + 1)) (get_or-tab edge_count f 0 at (omega arith))))
-      (edge_own (at + 1) (t - 1) w last.0 last.1
-      (q ∙ ap (pick (covers x x.row (t - 1)) (x.duty + 1)) (get_or-tab edge_count f 0 (at + 1) (omega arith))))
-      (λ j n m. edge_other j (λ r. omega arith))
+      let before = get_or-tab (most_engines + 1) (edges_at (drop (k + 1) xs) t) idle_edges x.row.0 (omega arith) in
+      let first = ap (λ (z : RowEdges). pick (covers x x.row 0) (Some x.duty) z.first) before ∙ own 0 in
+      let last = ap (λ (z : RowEdges). pick (covers x x.row (t - 1)) (Some x.duty) z.last) before ∙ own (t - 1) in
+      set_of idle_edges (most_engines + 1) x.row.0 (record { first = v; last = w }) (edges_at (drop (k + 1) xs) t) (edges_at (drop k xs) t)
+      (omega arith)
+      (rw (p ∙ first, q ∙ last) refl)
+      (λ i d. rw (other i 0 d, other i (t - 1) d) refl)
 
 -- the same for a loop that comes from k and has read run k - 1
-pub edges_back : (xs : List Run) (t : ℕ) {k v w : ℕ} {l : List ℕ} (x : Run) → 0 < k → k ≤ length xs → x ≡ run_at xs (k - 1)
+pub edges_back : (xs : List Run) (t : ℕ) {k : ℕ} {v w : Held} {l : List RowEdges} (x : Run) → 0 < k → k ≤ length xs → x ≡ run_at xs (k - 1)
     → x.row.0 ≤ most_engines → l ≡ edges_from xs t k
-    → v ≡ pick (covers x x.row 0) (x.duty + 1) (get_or l (2 * x.row.0) 0)
-    → w ≡ pick (covers x x.row (t - 1)) (x.duty + 1) (get_or l (2 * x.row.0 + 1) 0)
-    → set (set l (2 * x.row.0) v) (2 * x.row.0 + 1) w ≡ edges_from xs t (k - 1)
+    → v ≡ pick (covers x x.row 0) (Some x.duty) (first_edge l x.row.0)
+    → w ≡ pick (covers x x.row (t - 1)) (Some x.duty) (last_edge l x.row.0)
+    → set l x.row.0 (record { first = v; last = w }) ≡ edges_from xs t (k - 1)
 edges_back xs t {k} {v} {w} {l} x h m e few p q r =
     let z : k - 1 + 1 ≡ k = omega arith in
     rw p (rw z at (edges_more xs t (k - 1) x (omega arith) e v w few (rw z (rw p at q)) (rw z (rw p at r))))

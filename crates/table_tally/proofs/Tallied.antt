@@ -15,12 +15,10 @@ use Rattle.laws.specs.Lists.{tab}
 use Rattle.laws.proofs.Cases.{by_cases}
 use Rattle.laws.proofs.Lists.{get_or-tab, tab_zeros, set-tab}
 use Rattle.paper.specs.declared.Run.{Run}
-use Rattle.paper.specs.declared.Reading.{Reading}
 use Rattle.paper.specs.Words.{run, Table, run_at}
 use Rattle.paper.specs.Rules.{units_of}
-use Rattle.paper.specs.Limits.{most_duties, most_ticks}
-use Rattle.record_read.specs.Formed.{Formed, table_of}
-use Rattle.record_read.proofs.Table.{table_runs, table_run}
+use Rattle.paper.specs.Limits.{small, most_duties, most_ticks}
+use Rattle.paper.specs.Statements.{Ranged}
 use Rattle.table_tally.specs.Tally.{units_in}
 
 -- one run's units, and those of the runs after it
@@ -96,12 +94,9 @@ pub units_bound : (m : ℕ) (xs : List Run) (k i : ℕ) → ((j : ℕ) → j < l
 units_bound m xs k i h l =
     omega (arith, get_or-tab most_duties (λ j. units_of (drop k xs) j) 0 i l, units_fewer xs k i, units_few m xs i h)
 
--- no run of bytes in good form has more units than a block may have
-pub units_ranged : {b : List ℕ} {rd : Reading} → Formed b rd → (k : ℕ) → k < length (table_of b rd).runs
-    → (run_at (table_of b rd).runs k).length ≤ most_ticks
-units_ranged {b} {rd} F k h =
-    let l : k < rd.runs = rw (table_runs b rd) at h in
-    rw (table_run b rd k l) (omega (arith, (F.run_ranged_lem k l).inside, F.ticks_most))
+-- no run of a table in range has more units than a block may have
+pub units_ranged : {t : Table} → Ranged small t → (k : ℕ) → k < length t.runs → (run_at t.runs k).length ≤ most_ticks
+units_ranged F k h = omega (arith, (F.run_ranged_lem k h).inside, F.ticks_most)
 
 -- an entry of the table's is what the runs of the duty add up to
 pub units_told : (t : Table) (i : ℕ) → i < most_duties → get_or (units_in t) i 0 ≡ units_of t.runs i

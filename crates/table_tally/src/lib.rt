@@ -1,49 +1,109 @@
-// One pass over the runs of a table's bytes in good form: the units of each duty, for the judge, and what holds the first
-// and the last unit of each row, for the rotation. Both lists are lent, so that nothing is copied on its way to those who ask on.
+// One pass over the runs of a table: the units of each duty, for the judge, and what holds the first and the last unit of each row, for the
+// rotation. And a table that meets the rules, with its rows' edges, as those who ask on take it.
 #![tactic(auto)]
 
-ghost use Rattle.std.specs.Prelude.{◌≡◌, ◌+◌, ◌≤◌, ◌<◌};
+ghost use Rattle.std.specs.Prelude.{◌≡◌, ◌≤◌, Some};
 ghost use Rattle.laws.specs.Choice.{pick};
 ghost use Rattle.paper.specs.Words.{stop, covers};
-ghost use Rattle.paper.specs.Limits.{most_ticks, most_duties};
-ghost use Rattle.record_read.specs.Formed.{Formed, table_of};
-ghost use Rattle.table_tally.specs.Tally.{no_units, no_edges, units_in, edges_of};
+ghost use Rattle.paper.specs.Limits.{small, most_ticks};
+ghost use Rattle.paper.specs.Rotation.{first_of, link};
+ghost use Rattle.paper.specs.Statements.{Ranged, Meets};
+ghost use Rattle.row_edges.specs.Links.{link_of};
+ghost use Rattle.table_tally.specs.Tally.{units_in, edges_of};
+ghost use Rattle.table_tally.specs.Ready.{Ready};
 
-use paper::limits::{EDGES, MOST_DUTIES};
-use paper::{Reading, Run};
-use record_read::run_of;
+use paper::limits::MOST_DUTIES;
+use paper::{Held, Run};
+use record_read::{TableBytes, run_covers};
+use row_edges::{EDGE_ROWS, Edges, RowEdges};
+use std::marker::Model;
+
+// What one pass gathers: the units of each duty, and the edges of each row.
+#[derive(Clone, Copy)]
+pub struct Gathered {
+    pub units: [u32; MOST_DUTIES],
+    pub edges: Edges,
+}
 
 // What holds a unit of a run's row: the run's duty where the run has the unit, else what held it before.
-fn edge(x: Run, unit: u32, old: u32) -> u32
-    requires { (stop x ≤ most_ticks) × (x.duty < most_duties) }
-    ensures { result ≡ pick (covers x x.row unit) (x.duty + 1) old }
+fn edge(x: Run, unit: u32, old: Held) -> Held
+    requires { stop x ≤ most_ticks }
+    ensures { result ≡ pick (covers x x.row unit) (Some x.duty) old }
 {
-    if (x.first <= unit) & (unit < x.first + x.length) {
-        x.duty + 1
+    if run_covers(x, x.row, unit) {
+        Some(x.duty)
     } else {
         old
     }
 }
 
-// Tallies a table, in two lists of zeros: the units of each duty; and the edges of the rows, what holds the first and the last unit of each
-// and of one row past them, one after the other: 0 for idle, else the duty's number and 1. The first run that has a unit holds it, so the
-// runs are passed from the last to the first.
-pub fn tally(b: &[u8], rd: Reading, units: &mut [u32; MOST_DUTIES], edges: &mut [u32; EDGES])
-    requires { Formed b.now rd × (units.old ≡ no_units) × (edges.old ≡ no_edges) }
-    ensures { (units.new ≡ units_in (table_of b.now rd))
-        × (edges.new ≡ edges_of (table_of b.now rd)) }
+// Tallies a table. The first run that has a unit holds it, so the runs are passed from the last to the first.
+pub fn tally(table: &TableBytes) -> Gathered
+    ensures units { result.units ≡ units_in table.now }
+    ensures edges { result.edges ≡ edges_of table.now }
 {
-    let last = rd.block_length - 1;
-    let mut k = rd.runs as usize;
-    while 0 < k {
-        k -= 1;
-        let x = run_of(b, rd, k);
-        let d = x.duty as usize;
-        let at = 2 * x.row.0 as usize;
-        let first = edge(x, 0, edges[at]);
-        let ending = edge(x, last, edges[at + 1]);
-        units[d] += x.length;
-        edges[at] = first;
-        edges[at + 1] = ending;
+    let reading = table.reading();
+    let last = reading.block_length - 1;
+    let mut units = [0; MOST_DUTIES];
+    let mut edges = [RowEdges {
+        first: None,
+        last: None,
+    }; EDGE_ROWS];
+    for k in (0..reading.runs as usize).rev() {
+        let x = table.run(k);
+        units[x.duty as usize] += x.length;
+        let row = x.row.0 as usize;
+        edges[row] = RowEdges {
+            first: edge(x, 0, edges[row].first),
+            last: edge(x, last, edges[row].last),
+        };
+    }
+    Gathered { units, edges }
+}
+
+// A table that meets the rules, with the edges of its rows, ready to be asked. A contract sees the table.
+#[derive(Drop)]
+pub struct Accepted<'a> {
+    table: TableBytes<'a>,
+    edges: Edges,
+}
+
+impl<'a> Model for Accepted<'a> {
+    ghost use Rattle.paper.specs.Words.{Table};
+
+    ghost Value = { Table };
+
+    ghost use Rattle.table_tally.specs.Ready.{Ready};
+
+    ghost view = { λ a. a.table };
+
+    ghost invariant = { λ a. Ready a.table a.edges };
+}
+
+impl<'a> Accepted<'a> {
+    // A table that meets the rules, and the edges that its tally gathered.
+    pub fn new(table: TableBytes<'a>, edges: Edges) -> Accepted<'a>
+        requires { Ready table edges }
+        ensures { result ≡ table.entry }
+    {
+        Accepted { table, edges }
+    }
+
+    // Its bytes.
+    pub fn table(&self) -> &TableBytes<'a>
+        ensures same { result.now ≡ self.now }
+        ensures ranged { Ranged small self.now }
+        ensures meets { Meets self.now }
+    {
+        &self.table
+    }
+
+    // The edges of its rows. They tell its links, and the chain of its last row ends with it.
+    pub fn edges(&self) -> &Edges
+        ensures told { result.now ≡ edges_of self.now }
+        ensures links { link_of result.now ≡ link self.now }
+        ensures ends { first_of (link_of result.now) self.now.engines ≡ self.now.engines }
+    {
+        &self.edges
     }
 }

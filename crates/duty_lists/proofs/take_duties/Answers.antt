@@ -16,8 +16,8 @@ use Rattle.plan_laws.proofs.TakenWhen.{
   counts_good,
   range_refused,
   ranges_taken,
-  taken_told,
 }
+use Rattle.duty_lists.proofs.AfterTests.{none_applies, listed}
 use Rattle.duty_lists.proofs.take_duties.Goals as goal
 use Rattle.duty_lists.proofs.take_duties.Goals.{Else-not-is_within, Else-not-is_within-2, Start}
 
@@ -79,11 +79,5 @@ invariant_of-result c =
     let x = asked-3 (goal.at.invariant_of-result c).Else-not-is_within-2 in
     let counts = past (goal.at.invariant_of-result c).Else-not-is_within-2 in
     let many = length_duties x.services x.periods in
-    let told : taken x ≡ answer (duty_set x) = ranges_taken x counts c.bad_range-bad.result c.bad_range-bad.ensures (omega (arith, many)) in (
-      counts.lengths,
-      record {
-        some = rw many counts.duties.0;
-        few = rw many counts.duties.1;
-        ranged = (taken_told x (duty_set x) told).0.ranges;
-      },
-    )
+    let told : taken x ≡ answer (duty_set x) = ranges_taken x counts c.bad_range-bad.result c.bad_range-bad.ensures (omega (arith, many)) in
+    (counts.lengths, listed x (none_applies x told))
