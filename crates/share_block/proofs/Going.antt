@@ -30,7 +30,8 @@ use Rattle.share_laws.proofs.Steps.{need_next, whole_most}
 use Rattle.share_laws.proofs.CutFinds.{chosen_by_cut}
 use Rattle.share_turn.specs.Taking.{chosen_by, next_by}
 use Rattle.share_common.specs.Common.{Shareable}
-use Rattle.share_block.specs.Paced.{Rated, Needed, Paced, free_at, lack_at, short_at}
+use Rattle.share_block.specs.declared.Lists.{Lists}
+use Rattle.share_block.specs.Paced.{Pace, Rated, Needed, Paced, free_at, lack_at, short_at}
 use Rattle.share_block.proofs.Cutting.{wants_by_lem}
 
 or_true : (a : Bool) → a || true ≡ true
@@ -167,18 +168,9 @@ module _ {s : Sharing} {b : ℕ} {periods rate rest whole part : List ℕ} (k : 
           most = omega (arith, g.most);
         }
 
-  -- all of them: the next block's needs, whether some duty lacked, what the block gave
+  -- all of them: whether some duty lacked, what the block gave, the next block's needs
   module _ {i next : ℕ} {lacking : Bool} {before whole' part' units : List ℕ}
       (g : Going s b whole part before i next lacking whole' part' units) (e : i ≡ duty_count s) where
-    pub going_paced : Paced s (b + 1) next periods rate rest whole' part'
-    going_paced =
-        record {
-          shareable = k;
-          rated = r;
-          needed = record { wholes = λ j h. g.wholes.done j (omega arith); parts = λ j h. g.parts.done j (omega arith) };
-          sum = g.sum ∙ ap (λ (j : ℕ). sum_to j (wholes_of s (b + 1))) e;
-        }
-
     pub going_lacked : lacking ≡ lack_at s b
     going_lacked = g.lacked ∙ ap (any (lacks s (needs_at s b))) e
 
@@ -187,10 +179,33 @@ module _ {s : Sharing} {b : ℕ} {periods rate rest whole part : List ℕ} (k : 
     going_written h =
         turned_over before g.given refl (omega arith) ∙ ap (λ (j : ℕ). over (tab j (given_in s b)) before) e
 
+pub going_paced :
+    {s : Sharing} {b i next : ℕ} {lacking : Bool} {whole part before units : List ℕ} (l : Lists)
+    → Shareable s → Rated s l.periods l.rate l.rest → Going s b whole part before i next lacking l.whole l.part units → i ≡ duty_count s
+    → Paced s (b + 1) next l
+going_paced {s} {b} l k r g e =
+    record {
+      shareable = k;
+      rated = r;
+      needed = record { wholes = λ j h. g.wholes.done j (omega arith); parts = λ j h. g.parts.done j (omega arith) };
+      long = (g.wholes.long, g.parts.long);
+      sum = g.sum ∙ ap (λ (j : ℕ). sum_to j (wholes_of s (b + 1))) e;
+    }
+
+-- what stands in paces, by what they are seen as
+pub opened : {p q : Pace} {t : ℕ} {l : Lists} → p ≡ q → Paced p.sharing p.block t l → Paced q.sharing q.block t l
+opened e k = rw (← e) k
+
+pub closed : {p q : Pace} {t : ℕ} {l : Lists} → p ≡ q → Paced q.sharing (q.block + 1) t l → Paced p.sharing (p.block + 1) t l
+closed e k = rw e k
+
+pub count : {p q : Pace} → p ≡ q → duty_count p.sharing ≡ duty_count q.sharing
+count = ap (λ (p : Pace). duty_count p.sharing)
+
 -- ---- step 1, and the end of a block
 
 -- the free units, where the needs' whole units are no more than the engines have; else the block comes short
-module _ {s : Sharing} {b total : ℕ} {periods rate rest whole part : List ℕ} (p : Paced s b total periods rate rest whole part) where
+module _ {s : Sharing} {b total : ℕ} {l : Lists} (p : Paced s b total l) where
   module _ (n : ℕ) (e : n ≡ duty_count s) where
     pub free_is : (f : ℕ) → f ≡ s.engines * s.ticks + n - total → f ≡ free_at s b
     unfolding free

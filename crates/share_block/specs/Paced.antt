@@ -1,5 +1,5 @@
 -- How duties go on block after block, and what stands in their lists on the way: their shares, and their needs before a block.
-use Rattle.std.specs.Prelude.{ℕ, ◌+◌, ◌/◌, ◌%◌, ◌<◌, ◌≤◌, ◌≡◌, Bool, true, false, Option, Some, None, List, get_or}
+use Rattle.std.specs.Prelude.{ℕ, ◌+◌, ◌/◌, ◌%◌, ◌<◌, ◌≤◌, ◌≡◌, Bool, true, false, Option, Some, None, List, length, get_or}
 use Rattle.laws.specs.Search.{any}
 use Rattle.laws.specs.Sum.{sum_to}
 use Rattle.laws.specs.Lists.{over}
@@ -8,6 +8,7 @@ use Rattle.paper.specs.Sa2.{Sharing, duty_count, duty_of, share_of, whole_of, pa
 use Rattle.share_laws.specs.Short.{lacks, short}
 use Rattle.share_laws.specs.Cut.{cut_at}
 use Rattle.share_common.specs.Common.{Shareable}
+use Rattle.share_block.specs.declared.Lists.{Lists}
 
 -- whose blocks are shared out, and the block that is next
 pub record Pace : Type 0 where
@@ -29,10 +30,11 @@ pub record Needed (s : Sharing) (b : ℕ) (whole part : List ℕ) : Type 0 where
   pub parts : (i : ℕ) → i < duty_count s → get_or part i 0 ≡ part_of s (needs_at s b) i
 
 -- all of these, and the sum of the needs' whole units
-pub record Paced (s : Sharing) (b total : ℕ) (periods rate rest whole part : List ℕ) : Type 0 where
+pub record Paced (s : Sharing) (b total : ℕ) (l : Lists) : Type 0 where
   pub shareable : Shareable s
-  pub rated : Rated s periods rate rest
-  pub needed : Needed s b whole part
+  pub rated : Rated s l.periods l.rate l.rest
+  pub needed : Needed s b l.whole l.part
+  pub long : (length l.whole ≡ most_duties) × (length l.part ≡ most_duties)
   pub sum : total ≡ sum_to (duty_count s) (whole_of s (needs_at s b))
 
 -- of block b: its free units, whether some duty would get -1 units there, and whether it comes short

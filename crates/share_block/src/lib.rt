@@ -1,7 +1,7 @@
 // Steps 1, 2 and 4 of SA2 for all duties, block after block.
 #![tactic(auto)]
 
-ghost use Rattle.std.specs.Prelude.{◌≡◌, ◌+◌, ◌<◌, ◌≤◌, length};
+ghost use Rattle.std.specs.Prelude.{◌≡◌, ◌+◌, ◌<◌, ◌≤◌, length, replicate};
 ghost use Rattle.laws.specs.Lists.{over};
 ghost use Rattle.paper.specs.Limits.{most_duties};
 ghost use Rattle.paper.specs.Sa2.{duty_count, allotments};
@@ -15,19 +15,45 @@ use share_turn::{Amount, is_chosen, room_in_block, take_turn, wants_more};
 use slices::share_of;
 use std::marker::Model;
 
-// How the duties go on: each one's period, its share of a block (`rate` and `rest`), and its need (`whole` and `part`) before the block of
-// number `block`, with the sum of the needs' whole units. The needs' whole units are raised by 1.
+// Room for the duties' periods, shares (`rate` and `rest`) and needs (`whole` and `part`), whose whole units are raised by 1.
 // Lists of numbers, not one of structs (b): the loop over the duties takes several at a time, and over structs takes twice as long.
 #[derive(Drop)]
-pub struct Paces<'a> {
-    sharing: &'a Sharing<'a>,
-    block: u32,
-    total: u32,
+pub struct Lists {
     periods: [u32; MOST_DUTIES],
     rate: [u32; MOST_DUTIES],
     rest: [u32; MOST_DUTIES],
     whole: [u32; MOST_DUTIES],
     part: [u32; MOST_DUTIES],
+}
+
+impl Lists {
+    // With nothing in them.
+    pub fn new() -> Lists
+        ensures periods { result.periods ≡ replicate most_duties 0 }
+        ensures rate { result.rate ≡ replicate most_duties 0 }
+        ensures rest { result.rest ≡ replicate most_duties 0 }
+        ensures whole { result.whole ≡ replicate most_duties 0 }
+        ensures part { result.part ≡ replicate most_duties 0 }
+    {
+        Lists {
+            periods: [0; MOST_DUTIES],
+            rate: [0; MOST_DUTIES],
+            rest: [0; MOST_DUTIES],
+            whole: [0; MOST_DUTIES],
+            part: [0; MOST_DUTIES],
+        }
+    }
+}
+
+// How the duties go on: whose blocks are shared out, the block that is next, the sum of the needs' whole units before it, and what the lists
+// hold. The lists are lent, so that nothing is copied; and what goes over the duties is compiled where it is called, so that a pass whose
+// units nobody reads does not write them.
+#[derive(Drop)]
+pub struct Paces<'a> {
+    sharing: &'a Sharing<'a>,
+    block: u32,
+    total: u32,
+    lists: &'a mut Lists,
 }
 
 impl<'a> Model for Paces<'a> {
@@ -37,39 +63,34 @@ impl<'a> Model for Paces<'a> {
 
     ghost view = { λ a. pace a.sharing.now a.block };
 
-    ghost invariant = { λ a. Paced a.sharing.now a.block a.total a.periods a.rate a.rest a.whole a.part };
+    ghost invariant = { λ a. Paced a.sharing.now a.block a.total a.lists.now };
 }
 
 impl<'a> Paces<'a> {
     // Before the first block, where each need is the share itself.
-    pub fn begin(sharing: &'a Sharing<'a>) -> Paces<'a>
+    #[inline(always)]
+    pub fn begin(sharing: &'a Sharing<'a>, lists: &'a mut Lists) -> Paces<'a>
         ensures paced { result ≡ pace sharing.now 0 }
         ensures shareable { Shareable sharing.now }
     {
+        *lists = Lists::new();
         let ticks = sharing.ticks();
-        let mut periods = [0; MOST_DUTIES];
-        let mut rate = [0; MOST_DUTIES];
-        let mut rest = [0; MOST_DUTIES];
-        let mut whole = [0; MOST_DUTIES];
         let mut total = 0;
         for i in 0..sharing.duty_count() {
             let duty = sharing.duty(i);
             let share = share_of(ticks, duty);
-            periods[i] = duty.period;
-            rate[i] = share.units;
-            rest[i] = share.rest;
-            whole[i] = share.units + 1;
+            lists.periods[i] = duty.period;
+            lists.rate[i] = share.units;
+            lists.rest[i] = share.rest;
+            lists.whole[i] = share.units + 1;
+            lists.part[i] = share.rest;
             total += share.units + 1;
         }
         Paces {
             sharing,
             block: 0,
             total,
-            periods,
-            rate,
-            rest,
-            whole,
-            part: rest,
+            lists,
         }
     }
 
@@ -89,6 +110,7 @@ impl<'a> Paces<'a> {
     }
 
     // Step 2: the cut, before which the duties that want one of the free units are chosen. It is where so many have wanted one.
+    #[inline(always)]
     fn find_cut(&self, free: u32) -> u32
         requires { free ≡ free_at self.now.sharing self.now.block }
         ensures { (result ≡ cut_at self.now.sharing self.now.block) × (result ≤ most_duties) }
@@ -96,14 +118,15 @@ impl<'a> Paces<'a> {
         let sharing = self.sharing;
         let ticks = sharing.ticks();
         let duties = sharing.duty_count();
+        let lists = &*self.lists;
         let mut wanting = 0;
         for i in 0..duties {
             if free <= wanting {
                 return i as u32;
             }
             let need = Amount {
-                whole: self.whole[i],
-                part: self.part[i],
+                whole: lists.whole[i],
+                part: lists.part[i],
             };
             wanting += u32::from(wants_more(ticks, need));
         }
@@ -112,6 +135,7 @@ impl<'a> Paces<'a> {
 
     // The duties' turns in the next block, by its cut: what each duty gets goes to `units`, and the needs move on. The answer is whether some
     // duty would get -1 units.
+    #[inline(always)]
     pub fn share_by_cut(&mut self, cut: u32, units: &mut [u32]) -> bool
         requires block_most { self.old.block < u32.MAX }
         requires room { duty_count self.old.sharing ≤ length units.old }
@@ -122,22 +146,23 @@ impl<'a> Paces<'a> {
     {
         let sharing = self.sharing;
         let ticks = sharing.ticks();
+        let lists = &mut *self.lists;
         let mut total = 0;
         let mut lacking = false;
         for i in 0..sharing.duty_count() {
             let share = Amount {
-                whole: self.rate[i],
-                part: self.rest[i],
+                whole: lists.rate[i],
+                part: lists.rest[i],
             };
             let need = Amount {
-                whole: self.whole[i],
-                part: self.part[i],
+                whole: lists.whole[i],
+                part: lists.part[i],
             };
             let chosen = is_chosen(ticks, need, i as u32, cut);
-            let turn = take_turn(self.periods[i], share, need, chosen);
+            let turn = take_turn(lists.periods[i], share, need, chosen);
             units[i] = turn.units;
-            self.whole[i] = turn.need.whole;
-            self.part[i] = turn.need.part;
+            lists.whole[i] = turn.need.whole;
+            lists.part[i] = turn.need.part;
             total += turn.need.whole;
             lacking |= turn.lacking;
         }
@@ -147,6 +172,7 @@ impl<'a> Paces<'a> {
     }
 
     // The next block: its free units, its cut, and the duties' turns. The answer is the cut; none where the block comes short.
+    #[inline(always)]
     pub fn share_block(&mut self, units: &mut [u32]) -> Option<u32>
         requires block_most { self.old.block < u32.MAX }
         requires room { duty_count self.old.sharing ≤ length units.old }

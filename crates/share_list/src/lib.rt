@@ -7,7 +7,7 @@ ghost use Rattle.paper.specs.Sa2.{duty_count};
 ghost use Rattle.share_laws.specs.Cut.{HasCuts};
 ghost use Rattle.share_pass.specs.Passing.{allotted};
 
-use share_block::Paces;
+use share_block::{Lists, Paces};
 use share_common::Sharing;
 use share_pass::put_blocks;
 
@@ -17,6 +17,7 @@ pub fn write_list(sharing: &Sharing, blocks: u32, cuts: &[u8], list: &mut [u32])
     requires has_cuts { HasCuts sharing.now 0 blocks cuts.now }
     ensures { list.new ≡ over (allotted sharing.now blocks) list.old }
 {
-    let mut paces = Paces::begin(sharing);
+    let mut lists = Lists::new();
+    let mut paces = Paces::begin(sharing, &mut lists);
     put_blocks(&mut paces, blocks, cuts, list);
 }

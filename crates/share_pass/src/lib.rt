@@ -12,6 +12,7 @@ use share_block::Paces;
 
 // Shares out the blocks from the next one to before `to`; 23 at the first that comes short. What the last of them gives stays in `units`,
 // and each one's cut in `cuts`.
+#[inline(always)]
 pub fn pass_blocks(
     paces: &mut Paces,
     to: u32,

@@ -8,7 +8,7 @@ ghost use Rattle.share_survey.specs.Looking.{Looks};
 
 use paper::Refusal;
 use paper::limits::MOST_DUTIES;
-use share_block::Paces;
+use share_block::{Lists, Paces};
 use share_common::Sharing;
 use share_pass::pass_blocks;
 
@@ -24,7 +24,8 @@ pub fn survey(
     requires room { (duty_count sharing.now ≤ length units.old) × (blocks ≤ length cuts.old) }
     ensures { Looks sharing.now keep result units.old units.new cuts.new }
 {
-    let mut paces = Paces::begin(sharing);
+    let mut lists = Lists::new();
+    let mut paces = Paces::begin(sharing, &mut lists);
     let mut spare = [0; MOST_DUTIES];
     pass_blocks(&mut paces, keep + 1, units, cuts)?;
     pass_blocks(&mut paces, blocks, &mut spare, cuts)

@@ -9,7 +9,9 @@ use Rattle.share_block.proofs.Beginning.{begun_none, begun_more, begun_paced}
 use Rattle.share_block.proofs.Paces.begin.Goals as goal
 
 pub loop-i-init : goal.loop-i-init
-loop-i-init c = begun_none _
+loop-i-init c =
+    let l = c.new.ensures in
+    begun_none _ _ l.periods l.rate l.rest l.whole l.part
 
 pub loop-i-preserved : goal.loop-i-preserved
 loop-i-preserved c =

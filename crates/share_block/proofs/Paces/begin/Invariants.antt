@@ -2,4 +2,4 @@ use Rattle.share_block.proofs.Beginning.{Begun}
 use Rattle.share_block.proofs.Paces.begin.Given as goal
 
 abbrev pub invariant-loop-i : goal.invariant-loop-i
-invariant-loop-i l = Begun l.sharing l.i l.total l.periods l.rate l.rest l.whole
+invariant-loop-i l = Begun l.sharing l.i l.total l.lists
