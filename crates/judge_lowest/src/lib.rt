@@ -1,56 +1,48 @@
-// Of the rules that are said of a duty, the lowest duty of a table's bytes in good form that breaks it: 12, a slice that is not whole; 17,
-// runs that do not add up to the slice. Rule 11 has no place: it is told whether it is broken.
+// Of the rules that are said of a duty, the lowest duty of a table that breaks it: 12, a slice that is not whole; 17, runs that do not add
+// up to the slice. Rule 11 has no place: it is told whether it is broken.
 #![tactic(auto)]
 
-ghost use Rattle.std.specs.Prelude.{◌≡◌, ◌≤◌, ◌<◌};
+ghost use Rattle.std.specs.Prelude.{◌≡◌};
 ghost use Rattle.paper.specs.Words.{undivided};
 ghost use Rattle.paper.specs.Builder.{bad_slice};
 ghost use Rattle.paper.specs.Rules.{bad_sum};
-ghost use Rattle.record_read.specs.Formed.{Formed, table_of};
 ghost use Rattle.table_tally.specs.Tally.{units_in};
-ghost use Rattle.judge_lowest.specs.Breaks.{wrong_sum};
 
-use paper::Reading;
 use paper::limits::MOST_DUTIES;
-use record_read::duty_of;
+use record_read::TableBytes;
 use search::lowest;
 use slices::{is_whole, slice_of};
 
 // 11. Whether T does not divide every period.
-pub fn is_undivided(b: &[u8], rd: Reading) -> bool
-    requires { Formed b.now rd }
-    ensures { result ≡ undivided (table_of b.now rd).ticks (table_of b.now rd).duties }
+pub fn is_undivided(table: &TableBytes) -> bool
+    ensures { result ≡ undivided table.now.ticks table.now.duties }
 {
-    let n = rd.duties as usize;
-    lowest(0, n, |d| duty_of(b, rd, d).period % rd.block_length != 0) < n
+    let rd = table.reading();
+    let duties = rd.duties as usize;
+    lowest(0, duties, |d| table.duty(d).period % rd.block_length != 0) < duties
 }
 
 // 12. The lowest duty with a slice that is not whole, or how many duties there are.
-pub fn bad_slice(b: &[u8], rd: Reading) -> usize
-    requires { Formed b.now rd }
-    ensures { result ≡ bad_slice (table_of b.now rd).ticks (table_of b.now rd).duties }
+pub fn bad_slice(table: &TableBytes) -> usize
+    ensures { result ≡ bad_slice table.now.ticks table.now.duties }
 {
+    let rd = table.reading();
     lowest(
         0,
         rd.duties as usize,
-        |d| !is_whole(rd.block_length, duty_of(b, rd, d)),
+        |d| !is_whole(rd.block_length, table.duty(d)),
     )
 }
 
-// Whether the runs of duty i do not add up to its slice, by the units of each duty.
-fn is_wrong_sum(b: &[u8], rd: Reading, units: &[u32; MOST_DUTIES], i: usize) -> bool
-    requires formed { Formed b.now rd }
-    requires units_value { (units.now ≡ units_in (table_of b.now rd)) × (i < rd.duties) }
-    ensures { result ≡ wrong_sum (table_of b.now rd) i }
+// 17. The lowest duty whose runs do not add up to its slice, by the units of each duty, or how many duties there are.
+pub fn bad_sum(table: &TableBytes, units: &[u32; MOST_DUTIES]) -> usize
+    requires { units.now ≡ units_in table.now }
+    ensures { result ≡ bad_sum table.now }
 {
-    units[i] != slice_of(rd.block_length, duty_of(b, rd, i))
-}
-
-// The lowest duty whose runs do not add up to its slice, or how many duties there are.
-pub fn bad_sum(b: &[u8], rd: Reading, units: &[u32; MOST_DUTIES]) -> usize
-    requires formed { Formed b.now rd }
-    requires units_value { units.now ≡ units_in (table_of b.now rd) }
-    ensures { result ≡ bad_sum (table_of b.now rd) }
-{
-    lowest(0, rd.duties as usize, |i| is_wrong_sum(b, rd, units, i))
+    let rd = table.reading();
+    lowest(
+        0,
+        rd.duties as usize,
+        |i| units[i] != slice_of(rd.block_length, table.duty(i)),
+    )
 }

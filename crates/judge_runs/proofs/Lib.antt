@@ -1,3 +1,2 @@
--- What a search that looks for a rule's place tells, and how the rules' two halves make up the whole.
-pub mod Found
+-- How the rules' two halves make up the whole.
 pub mod Halves

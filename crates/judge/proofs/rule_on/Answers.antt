@@ -1,17 +1,16 @@
--- `rule_on`: a fault of form is the judge's; after a good form the rules decide.
-use mathlib.Core.Path.{sym, ap, ◌∙◌}
-use Rattle.table_form.specs.FormAs.{form_as}
-use Rattle.table_form.proofs.GoodForm.{formed}
-use Rattle.judge.proofs.Ruled.{fault_ruled}
-use Rattle.judge.proofs.Accepted.{form_refused}
+-- `rule_on`: the rules hand on the very table that they are asked of, so the table in the bytes is accepted where they all pass it.
+use Rattle.std.proofs.Common.{◌≡◌, sym}
+use Rattle.paper.specs.Outcome.{answer}
+use Rattle.paper.specs.Rules.{accepted, judge_table}
+use Rattle.table_laws.proofs.AcceptedBytes.{accepted_ranged, accepted_meets}
+use Rattle.judge_runs.proofs.Halves.{halves}
 use Rattle.judge.proofs.rule_on.Goals as goal
 
-pub rule_on_form-requires : goal.rule_on_form-requires
-rule_on_form-requires c =
-    let form_of = c.form_of in
-    (formed _ _ (sym form_of.ensures ∙ ap form_as c.in-Good.is), c.requires)
-
-pub returns-in-Fault : goal.returns-in-Fault
-returns-in-Fault c =
-    let form_of = c.form_of in
-    fault_ruled (form_refused _ (sym form_of.ensures ∙ ap form_as c.in-Fault.is))
+pub new-requires : goal.new-requires
+unfolding accepted judge_table
+new-requires c =
+    let t = c.in_ok-table.table in
+    let all : accepted c.args.b.now ≡ answer t =
+    rw (← c.in_ok-table.ensures, ← c.in_ok-judge_duties.ensures, halves t, ← c.in_ok-judge_rows.ensures)
+    (sym c.in_ok-judge_service.ensures) in
+    record { ranged = accepted_ranged _ t all; meets = accepted_meets _ t all; edges_are = c.tally-gathered.ensures.edges }

@@ -1,15 +1,15 @@
 -- `is_wrong`: the one look (`wrong-told`), on one row and on two.
-use borrow.Author.Rules.{rules}
+use Rattle.std.proofs.Common.{rules}
 use borrow.Author.Tests.{eq-eqb, ne_eqb}
 use Rattle.table_laws.proofs.Forerunners.{wrong-told}
 use Rattle.judge_pairs.proofs.is_wrong.Goals as goal
 
-pub returns-then-x-y : goal.returns-then-x-y
-returns-then-x-y c =
+pub returns-then-eq : goal.returns-then-eq
+returns-then-eq c =
     let one_row = eq-eqb c.args.x.row.0 c.args.y.row.0 (search rules) in
     rw (wrong-told c.args.x c.args.y c.requires.1, one_row)
 
-pub returns-else-x-y : goal.returns-else-x-y
-returns-else-x-y c =
+pub returns-else-eq : goal.returns-else-eq
+returns-else-eq c =
     let two-rows = ne_eqb c.args.x.row.0 c.args.y.row.0 (search rules) in
     rw (wrong-told c.args.x c.args.y c.requires.1, two-rows)

@@ -1,12 +1,7 @@
 -- `judge_rows`: up to the lowest run that stands wrong to its forerunner none of the three rules finds one, and where there is no such
 -- run, none at all (`right_rows`).
-use Prim.Native.Nat.{◌≤◌, ◌<◌}
-use native.Mathlib.Omega.{arith}
-use lib.ListN.{length}
-use Rattle.laws.specs.Search.{first}
+use Rattle.std.proofs.Common.{length, arith}
 use Rattle.laws.proofs.Search.{beside, first_clear, compare_found}
-use Rattle.record_read.specs.Formed.{table_of}
-use Rattle.record_read.proofs.Table.{table_runs, table_reading}
 use Rattle.table_laws.proofs.Forerunners.{wrongly, right_rows}
 use Rattle.judge_runs.proofs.Halves.{rows_clear}
 use Rattle.judge_runs.proofs.judge_rows.Goals as goal
@@ -14,15 +9,12 @@ use Rattle.judge_runs.proofs.judge_rows.Goals as goal
 pub search_rows-requires : goal.search_rows-requires
 search_rows-requires c =
     let told = c.first_amiss-amiss.ensures in
-    let xs = (table_of c.args.b.now c.args.rd).runs in
-    let some : first (beside (wrongly xs)) (length xs) < length xs =
-    omega (arith, told, table_runs c.args.b.now c.args.rd) in
-    (c.requires, rw told (compare_found (wrongly xs) (length xs) some))
+    let some = rw (told, c.reading.ensures.told) at c.if-amiss-reading.true in
+    rw told (compare_found _ _ some)
 
 pub returns : goal.returns
 returns c =
-    let t = table_of c.args.b.now c.args.rd in
-    let end : length t.runs ≤ first (beside (wrongly t.runs)) (length t.runs) =
-    omega (arith, c.first_amiss-amiss.ensures, table_runs c.args.b.now c.args.rd) in
-    let none = right_rows t.runs (λ k l. first_clear (beside (wrongly t.runs)) (length t.runs) k (omega arith)) in
-    rw (rows_clear t none.0 none.1 none.2, table_reading _ _ c.requires)
+    let t = c.args.table.now in
+    let end = rw (c.first_amiss-amiss.ensures, c.reading.ensures.told) at c.if-amiss-reading.false in
+    let none = right_rows t.runs (λ k l. first_clear (beside (wrongly t.runs)) (length t.runs) k (omega (arith, end))) in
+    rw (rows_clear t none.0 none.1 none.2)
