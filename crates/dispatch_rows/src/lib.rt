@@ -4,16 +4,19 @@
 ghost use Rattle.std.specs.Prelude.{◌≡◌, ◌≤◌};
 ghost use Rattle.paper.specs.Limits.{most_engines};
 ghost use Rattle.paper.specs.Answers.{rows_at};
+ghost use Rattle.paper.specs.Rotation.{link};
 ghost use Rattle.row_edges.specs.Links.{link_of};
 ghost use Rattle.rotation.specs.Turning.{IsTurned};
 ghost use Rattle.dispatch_rows.specs.AtHand.{AtHand};
 
-use paper::limits::{EDGES, MOST_ENGINES};
+use paper::limits::MOST_ENGINES;
 use paper::{Chain, Engine, Row};
 use rotation::{Turned, row_of, turned_at};
+use row_edges::Edges;
+use table_tally::Accepted;
 
 // The chain of a row in a block: the one at hand, if it reaches so far, or else the next.
-fn onward(edges: &[u32; EDGES], block: u64, turned: Turned, row: Row) -> Turned
+fn onward(edges: &Edges, block: u64, turned: Turned, row: Row) -> Turned
     requires { (row.0 ≤ most_engines) × AtHand (link_of edges.now) block row.0 turned }
     ensures { IsTurned (link_of edges.now) block row.0 result }
 {
@@ -24,10 +27,11 @@ fn onward(edges: &[u32; EDGES], block: u64, turned: Turned, row: Row) -> Turned
 }
 
 // The rows of all engines in a block: one chain after the other, each found once. At first there is none at hand.
-pub fn rows_at(edges: &[u32; EDGES], engines: u32, block: u64) -> [Row; MOST_ENGINES]
-    requires { engines ≤ most_engines }
-    ensures { result ≡ rows_at (link_of edges.now) engines block }
+pub fn rows_at(accepted: &Accepted, block: u64) -> [Row; MOST_ENGINES]
+    ensures { result ≡ rows_at (link accepted.now) accepted.now.engines block }
 {
+    let edges = accepted.edges();
+    let engines = accepted.table().reading().engines;
     let mut rows = [Row(0); MOST_ENGINES];
     let mut turned = Turned {
         chain: Chain {
