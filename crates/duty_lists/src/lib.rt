@@ -50,6 +50,7 @@ impl<'a> Duties<'a> {
         ensures value { result ≡ duty_at self.now i }
         ensures ranged { DutyRanged result }
     {
+        // Taken out first, so that what holds of both lists is known where they are indexed.
         let services = self.services;
         let periods = self.periods;
         Duty {
