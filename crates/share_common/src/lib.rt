@@ -2,15 +2,15 @@
 #![tactic(auto)]
 
 ghost use Rattle.std.specs.Prelude.{◌≡◌, ◌*◌, ◌^◌, ◌≤◌, ◌<◌, ltb, SomeIff};
-ghost use Rattle.laws.specs.Divisor.{lcm};
-ghost use Rattle.paper.specs.Duties.{asks, asked_in};
-ghost use Rattle.paper.specs.Limits.{most_share_blocks};
+ghost use Rattle.laws.specs.Divisor.{lcm, lcm_of};
+ghost use Rattle.paper.specs.Duties.{asks, asked_in, periods_of};
+ghost use Rattle.paper.specs.Limits.{most_engines, most_ticks, most_share_blocks};
 ghost use Rattle.paper.specs.Outcome.{outcome_of};
 ghost use Rattle.paper.specs.Sa2.{duty_count, duty_of};
-ghost use Rattle.paper.specs.Shares.{common, overloaded};
+ghost use Rattle.paper.specs.Shares.{blocks, shared};
 ghost use Rattle.paper.specs.Statements.{DutyRanged};
 ghost use Rattle.paper.specs.Wanted.{wanted};
-ghost use Rattle.share_common.specs.Common.{Shareable, shared_of, blocks_of};
+ghost use Rattle.share_common.specs.Common.{Shareable, Counted};
 
 use duty_lists::{Duties, take_duties};
 use paper::limits::MOST_SHARE_BLOCKS;
@@ -34,23 +34,53 @@ fn asked_of(x: Duty, ticks: u32) -> u64
     u64::from(x.service) * u64::from(ticks / x.period)
 }
 
-// Whose blocks are shared out: the block length, the engines, and the duties that were taken. The block length divides every period.
+// The least common multiple of the duties' periods; none where it is more blocks of so many ticks than a plan may have.
+fn common_of(ticks: u32, duties: &Duties) -> Option<u32>
+    requires { (1 ≤ ticks) × (ticks ≤ most_ticks) }
+    ensures { SomeIff result (lcm_of (periods_of duties.now) ≤ most_share_blocks * ticks) (lcm_of (periods_of duties.now)) }
+{
+    let most = MOST_SHARE_BLOCKS * ticks;
+    let mut common = 1;
+    for i in 0..duties.len() {
+        common = multiple_of(common, duties.duty(i).period)?;
+        if most < common {
+            return None;
+        }
+    }
+    Some(common)
+}
+
+// Whether the duties need more than the engines have, over so many ticks, a common multiple of the periods.
+fn is_overload(engines: u32, duties: &Duties, ticks: u32) -> bool
+    requires { engines ≤ most_engines }
+    ensures { result ≡ ltb (engines * ticks) (asked_in ticks duties.now) }
+{
+    let mut asked = 0;
+    for i in 0..duties.len() {
+        asked += asked_of(duties.duty(i), ticks);
+    }
+    u64::from(engines) * u64::from(ticks) < asked
+}
+
+// Whose blocks are shared out: the block length, which divides every period, the engines, the blocks up to the periods' least common
+// multiple, and the duties that were taken. They do not need more than the engines have.
 #[derive(Drop)]
 pub struct Sharing<'a> {
     ticks: u32,
     engines: u32,
+    blocks: u32,
     duties: Duties<'a>,
 }
 
 impl<'a> Model for Sharing<'a> {
     ghost use Rattle.paper.specs.Sa2.{Sharing, sharing};
-    ghost use Rattle.share_common.specs.Common.{Shareable};
+    ghost use Rattle.share_common.specs.Common.{Counted};
 
     ghost Value = { Sharing };
 
     ghost view = { λ a. sharing a.ticks a.engines a.duties };
 
-    ghost invariant = { λ a. Shareable (sharing a.ticks a.engines a.duties) };
+    ghost invariant = { λ a. Counted (sharing a.ticks a.engines a.duties) a.blocks };
 }
 
 impl<'a> Sharing<'a> {
@@ -70,6 +100,14 @@ impl<'a> Sharing<'a> {
         self.engines
     }
 
+    // The blocks: there are some, and no more than a plan may have.
+    pub fn blocks(&self) -> u32
+        ensures value { result ≡ blocks self.now }
+        ensures counted { Counted self.now result }
+    {
+        self.blocks
+    }
+
     // How many duties there are.
     pub fn duty_count(&self) -> usize
         ensures value { result ≡ duty_count self.now }
@@ -86,62 +124,29 @@ impl<'a> Sharing<'a> {
     {
         self.duties.duty(i)
     }
-
-    // The least common multiple of the periods; none where it is more blocks than a plan may have.
-    fn common(&self) -> Option<u32>
-        ensures value { SomeIff result (common self.now ≤ most_share_blocks * self.now.ticks) (common self.now) }
-        ensures shareable { Shareable self.now }
-    {
-        let most = MOST_SHARE_BLOCKS * self.ticks();
-        let mut common = 1;
-        for i in 0..self.duty_count() {
-            common = multiple_of(common, self.duty(i).period)?;
-            if most < common {
-                return None;
-            }
-        }
-        Some(common)
-    }
-
-    // Whether the duties need more than the engines have, over so many ticks, a common multiple of the periods.
-    fn is_overload(&self, ticks: u32) -> bool
-        ensures { result ≡ ltb (self.now.engines * ticks) (asked_in ticks self.now.duties) }
-    {
-        let mut asked = 0;
-        for i in 0..self.duty_count() {
-            asked += asked_of(self.duty(i), ticks);
-        }
-        u64::from(self.engines()) * u64::from(ticks) < asked
-    }
-
-    // The blocks up to the common multiple: 22 where they are too many, then 7 where the duties need more than the engines have.
-    pub fn blocks(&self) -> Result<u32, Refusal>
-        ensures told { outcome_of result ≡ blocks_of self.now }
-        ensures shareable { Shareable self.now }
-    {
-        let Some(common) = self.common() else {
-            return Err(Refusal::ManyShareBlocks);
-        };
-        if self.is_overload(common) {
-            return Err(Refusal::Overload);
-        }
-        Ok(common / self.ticks())
-    }
 }
 
-// Takes the duties of the two lists, after tests 1 to 5, for blocks of the periods' greatest common divisor.
+// Takes the duties of the two lists for blocks of the periods' greatest common divisor: 1 to 5, then 22 where the blocks are too many, then
+// 7 where the duties need more than the engines have.
 pub fn take_sharing<'a>(
     engines: u32,
     services: &'a [u32],
     periods: &'a [u32],
 ) -> Result<Sharing<'a>, Refusal>
-    ensures { outcome_of result ≡ shared_of (wanted engines services.now periods.now) }
+    ensures { outcome_of result ≡ shared (wanted engines services.now periods.now) }
 {
     let duties = take_duties(engines, services, periods)?;
     let ticks = duties.greatest();
+    let Some(common) = common_of(ticks, &duties) else {
+        return Err(Refusal::ManyShareBlocks);
+    };
+    if is_overload(engines, &duties, common) {
+        return Err(Refusal::Overload);
+    }
     Ok(Sharing {
         ticks,
         engines,
+        blocks: common / ticks,
         duties,
     })
 }

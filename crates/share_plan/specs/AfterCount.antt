@@ -1,18 +1,11 @@
--- Plans of shares once the blocks are known.
-use Rattle.std.specs.Prelude.{ℕ, ◌≤◌, ◌<◌, ◌≡◌}
+-- Plans of shares past 1 to 5, 22 and 7.
+use Rattle.std.specs.Prelude.{ℕ}
 use Rattle.paper.specs.declared.Engine.{Engine}
 use Rattle.paper.specs.Duties.{Held}
 use Rattle.paper.specs.Outcome.{Outcome, answer, and_then}
-use Rattle.paper.specs.Limits.{most_share_blocks}
 use Rattle.paper.specs.Answers.{of_engine}
 use Rattle.paper.specs.Sa2.{Sharing}
-use Rattle.paper.specs.Shares.{blocks, share_schedule, roomy, steady}
-
--- the blocks up to the periods' common multiple
-pub record KnownBlocks (s : Sharing) (n : ℕ) : Type 0 where
-  pub blocks_are : n ≡ blocks s
-  pub some : 0 < n
-  pub few : n ≤ most_share_blocks
+use Rattle.paper.specs.Shares.{share_schedule, roomy, steady}
 
 -- 8 and 23, else the plan
 abbrev pub list_from : ℕ → Sharing → Outcome Sharing

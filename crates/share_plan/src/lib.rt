@@ -1,12 +1,11 @@
-// Plans of shares by SA2: the builder of shares, and the question to its plan. Tests 1 to 5 come first, then 22 and 7; past them the blocks
-// are known.
+// Plans of shares by SA2: the builder of shares, and the question to its plan. Tests 1 to 5 come first, then 22 and 7.
 #![tactic(auto)]
 
 ghost use Rattle.std.specs.Prelude.{◌≡◌, length};
 ghost use Rattle.paper.specs.Outcome.{outcome_of};
 ghost use Rattle.paper.specs.Shares.{GivesShares, share_plan, share_question};
 ghost use Rattle.paper.specs.Wanted.{wanted};
-ghost use Rattle.share_plan.specs.AfterCount.{KnownBlocks, list_from, held_from};
+ghost use Rattle.share_plan.specs.AfterCount.{list_from, held_from};
 
 use paper::limits::{MOST_DUTIES, MOST_SHARE_BLOCKS};
 use paper::{Engine, Held, Refusal, ShareReading};
@@ -15,20 +14,20 @@ use share_holder::held_at;
 use share_list::write_list;
 use share_survey::survey;
 
-// The builder of shares from refusal 8 on: the blocks are known. All of them are looked through before one entry is written, and the cuts
-// that were found on the way are what the writing goes by.
-fn list_from(sharing: &Sharing, blocks: u32, list: &mut [u32]) -> Result<ShareReading, Refusal>
-    requires { KnownBlocks sharing.now blocks }
+// The builder of shares from refusal 8 on. All blocks are looked through before one entry is written, and the cuts that were found on the
+// way are what the writing goes by.
+fn list_from(sharing: &Sharing, list: &mut [u32]) -> Result<ShareReading, Refusal>
     ensures { GivesShares (list_from (length list.old) sharing.now) result list.old list.new }
 {
+    let blocks = sharing.blocks();
     let entries = blocks as usize * sharing.duty_count();
     if list.len() < entries {
         return Err(Refusal::Room(entries));
     }
     let mut spare = [0; MOST_DUTIES];
     let mut cuts = [0; MOST_SHARE_BLOCKS as usize];
-    survey(sharing, blocks, 0, &mut spare, &mut cuts)?;
-    write_list(sharing, blocks, &cuts, list);
+    survey(sharing, 0, &mut spare, &mut cuts)?;
+    write_list(sharing, &cuts, list);
     Ok(ShareReading {
         entries,
         block_length: sharing.ticks(),
@@ -48,21 +47,18 @@ pub fn build_shares(
         list.old list.new }
 {
     let sharing = take_sharing(engines, services, periods)?;
-    let blocks = sharing.blocks()?;
-    list_from(&sharing, blocks, list)
+    list_from(&sharing, list)
 }
 
-// The question from refusal 23 on: the blocks are known. The engine keeps the row of its number, so the tick's place on the line of its
-// block tells who runs.
-fn held_from(sharing: &Sharing, blocks: u32, engine: Engine, tick: u64) -> Result<Held, Refusal>
-    requires { KnownBlocks sharing.now blocks }
+// The question from refusal 23 on. The engine keeps the row of its number, so the tick's place on the line of its block tells who runs.
+fn held_from(sharing: &Sharing, engine: Engine, tick: u64) -> Result<Held, Refusal>
     ensures { outcome_of result ≡ held_from engine tick sharing.now }
 {
     let ticks = sharing.ticks();
-    let block = (tick / u64::from(ticks) % u64::from(blocks)) as u32;
+    let block = (tick / u64::from(ticks) % u64::from(sharing.blocks())) as u32;
     let mut units = [0; MOST_DUTIES];
     let mut cuts = [0; MOST_SHARE_BLOCKS as usize];
-    survey(sharing, blocks, block, &mut units, &mut cuts)?;
+    survey(sharing, block, &mut units, &mut cuts)?;
     if sharing.engines() <= engine.0 {
         return Err(Refusal::NoEngine);
     }
@@ -81,6 +77,5 @@ pub fn share_question(
     ensures { outcome_of result ≡ share_question (wanted engines services.now periods.now) engine tick }
 {
     let sharing = take_sharing(engines, services, periods)?;
-    let blocks = sharing.blocks()?;
-    held_from(&sharing, blocks, engine, tick)
+    held_from(&sharing, engine, tick)
 }

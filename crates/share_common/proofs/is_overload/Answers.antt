@@ -1,10 +1,10 @@
--- `Sharing::is_overload`: what the duties ask for is added up; none asks for more than the ticks, so the sum of few of them fits 64 bits.
+-- `is_overload`: what the duties ask for is added up; none asks for more than the ticks, so the sum of few of them fits 64 bits.
 use Prim.Native.Nat.{◌*◌}
 use mathlib.Core.Path.{ap}
 use native.Mathlib.Omega.{arith}
 use lib.Dec.{ltb}
 use Rattle.share_common.proofs.Counting.{asking_none, asking_more, asking_end}
-use Rattle.share_common.proofs.Sharing.is_overload.Goals as goal
+use Rattle.share_common.proofs.is_overload.Goals as goal
 
 pub loop-i-init : goal.loop-i-init
 loop-i-init c = asking_none _ _
@@ -17,4 +17,4 @@ loop-i-preserved c =
 pub returns : goal.returns
 returns c =
     let sum = asking_end c.loop-i.invariant (omega arith) in
-    rw (c.from.ensures, c.from-2.ensures, c.engines.ensures.value) (ap (ltb (c.args.self.now.engines * c.args.ticks)) sum)
+    rw (c.from.ensures, c.from-2.ensures) (ap (ltb (c.args.engines * c.args.ticks)) sum)

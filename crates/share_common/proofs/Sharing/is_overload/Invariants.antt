@@ -1,5 +1,0 @@
-use Rattle.share_common.proofs.Counting.{Asking}
-use Rattle.share_common.proofs.Sharing.is_overload.Given as goal
-
-abbrev pub invariant-loop-i : goal.invariant-loop-i
-invariant-loop-i l = Asking l.self l.ticks l.i l.asked
