@@ -10,37 +10,28 @@ use mathlib.Core.Logic.{⊎_elim}
 use native.Mathlib.Omega.{arith}
 use lib.Dec.{ltb, eqb}
 use lib.ListN.{length}
+use Rattle.std.specs.Prelude.{⊤, Result, Ok, Err}
 use Rattle.laws.specs.Choice.{pick}
 use Rattle.laws.proofs.Cases.{by_cases, one_to_one}
 use Rattle.paper.specs.declared.Row.{Row}
 use Rattle.paper.specs.declared.Reading.{Reading}
 use Rattle.paper.specs.declared.Refusal.{Refusal}
 use Rattle.paper.specs.declared.Fault.{Fault}
-use Rattle.paper.specs.declared.Fault.TheVariants.{Form, BlockLength, Slice, Order, Overlap, Joint, Twice, Service}
-use Rattle.paper.specs.declared.Judged.{Judged}
-use Rattle.paper.specs.declared.Judged.TheVariants.{Accepted, Bad}
-use Rattle.paper.specs.declared.Written.{Written}
-use Rattle.paper.specs.declared.Written.TheVariants.{Length, Refused as NotWritten}
-use Rattle.paper.specs.declared.Verdict.{Verdict}
-use Rattle.paper.specs.declared.Verdict.TheVariants.{Done, Refused as NotDone}
+use Rattle.paper.specs.declared.Fault.TheVariants.{Form, BlockLength as Undivided, Slice, Order, Overlap, Joint, Twice}
+use Rattle.paper.specs.declared.Fault.TheVariants.{Service as OffService}
+use Rattle.paper.specs.declared.Refusal.TheVariants.{Engines, Lengths, Duties, Period, Service, PartSlice, Overload, Room, Input}
+use Rattle.paper.specs.declared.Refusal.TheVariants.{Table, NoEngine, ManyBlocks, StrangeState, LastBlock, ManyShareBlocks, ShareBlock}
+use Rattle.paper.specs.declared.Refusal.TheVariants.{BlockLength, Lent}
 use Rattle.paper.specs.declared.Reply.{Reply}
-use Rattle.paper.specs.declared.Answer.{Answer}
-use Rattle.paper.specs.declared.Answer.TheVariants.{Replies, Refused as NoReply}
+use Rattle.paper.specs.declared.ShareReading.{ShareReading}
 use Rattle.paper.specs.declared.State.{State}
 use Rattle.paper.specs.declared.Dispatched.{Dispatched}
-use Rattle.paper.specs.declared.RowTold.{RowTold}
-use Rattle.paper.specs.declared.RowTold.TheVariants.{At, Refused as NoRow}
-use Rattle.paper.specs.declared.Counted.{Counted}
-use Rattle.paper.specs.declared.Counted.TheVariants.{Loads, Refused as NoCount}
-use Rattle.paper.specs.declared.SharesTold.{SharesTold}
-use Rattle.paper.specs.declared.SharesTold.TheVariants.{Given, Refused as NotGiven}
-use Rattle.paper.specs.declared.ShareAnswer.{ShareAnswer}
-use Rattle.paper.specs.declared.ShareAnswer.TheVariants.{Holds, Refused as NoAnswer}
-use Rattle.paper.specs.Outcome.{Outcome, refused, answer, refusal, refusal_of, verdict_as, written_as, leaves, Writes, judged_as}
+use Rattle.paper.specs.Outcome.{Outcome, refused, answer, fault_number, fault_place, number_of, place_of, outcome_of, verdict_as, leaves}
+use Rattle.paper.specs.Outcome.{Writes, judged_as}
 use Rattle.paper.specs.Wanted.{Wanted}
-use Rattle.paper.specs.Answers.{answer_as, Hands, row_as, count_as}
+use Rattle.paper.specs.Answers.{Hands}
 use Rattle.paper.specs.Sa2.{Sharing}
-use Rattle.paper.specs.Shares.{shares_as, GivesShares, share_answer_as}
+use Rattle.paper.specs.Shares.{GivesShares}
 use Rattle.paper.specs.Face.{shares_call, shares_entries, shares_left, share_at_call}
 use Rattle.paper.specs.Limits.{word_room, reading_room, reply_room, share_reading_room, state_room}
 use Rattle.paper.specs.Duties.{Held, engine}
@@ -54,109 +45,148 @@ use Rattle.share_laws.proofs.SharesListed.{shares_listed, share_question_listed}
 
 -- ---- the way back, from an outcome to the answer that reads as it
 
-answer_for : {A E : Type 0} → (Refusal → E) → (A → E) → Outcome A → E
-answer_for f g (refused n p) = f (refusal n p)
-answer_for f g (answer a) = g a
-
 -- the fault of a number and a place
-fault_of : Refusal → Fault
-fault_of x =
-    pick (eqb x.number 10) (Form x.place)
-    (pick (eqb x.number 11) BlockLength
-    (pick (eqb x.number 12) (Slice x.place)
-    (pick (eqb x.number 13) (Order x.place)
-    (pick (eqb x.number 14) (Overlap x.place)
-    (pick (eqb x.number 15) (Joint x.place) (pick (eqb x.number 16) (Twice x.place) (Service x.place)))))))
+fault_for : ℕ → ℕ → Fault
+fault_for n p =
+    pick (eqb n 10) (Form p)
+    (pick (eqb n 11) Undivided
+    (pick (eqb n 12) (Slice p)
+    (pick (eqb n 13) (Order p)
+    (pick (eqb n 14) (Overlap p)
+    (pick (eqb n 15) (Joint p) (pick (eqb n 16) (Twice p) (OffService p)))))))
 
-fault-back : (f : Fault) → fault_of (refusal_of f) ≡ f
-unfolding fault_of
+fault-back : (f : Fault) → fault_for (fault_number f) (fault_place f) ≡ f
+unfolding fault_for
 fault-back (Form at) = refl
-fault-back BlockLength = refl
+fault-back Undivided = refl
 fault-back (Slice d) = refl
 fault-back (Order k) = refl
 fault-back (Overlap k) = refl
 fault-back (Joint k) = refl
 fault-back (Twice k) = refl
-fault-back (Service d) = refl
+fault-back (OffService d) = refl
 
-judged-back : (x : Judged) → answer_for (λ r. Bad (fault_of r)) Accepted (judged_as x) ≡ x
-unfolding answer_for
-judged-back (Accepted r) = refl
-judged-back (Bad f) = ap Bad (fault-back f)
+-- the refusal of a number and a place: those of a table stand between
+refusal_for : ℕ → ℕ → Refusal
+refusal_for n p =
+    pick (eqb n 1) Engines
+    (pick (eqb n 2) Lengths
+    (pick (eqb n 3) Duties
+    (pick (eqb n 4) (Period p)
+    (pick (eqb n 5) (Service p)
+    (pick (eqb n 6) (PartSlice p)
+    (pick (eqb n 7) Overload
+    (pick (eqb n 8) (Room p)
+    (pick (eqb n 9) (Input p)
+    (pick (eqb n 18) NoEngine
+    (pick (eqb n 19) ManyBlocks
+    (pick (eqb n 20) StrangeState
+    (pick (eqb n 21) LastBlock
+    (pick (eqb n 22) ManyShareBlocks
+    (pick (eqb n 23) (ShareBlock p) (pick (eqb n 24) BlockLength (pick (eqb n 255) (Lent p) (Table (fault_for n p))))))))))))))))))
 
-written_back : (x : Written) → answer_for NotWritten Length (written_as x) ≡ x
-unfolding answer_for
-written_back (Length n) = refl
-written_back (NotWritten x) = refl
+table_back : (f : Fault) → refusal_for (fault_number f) (fault_place f) ≡ Table f
+unfolding refusal_for fault_for
+table_back (Form at) = refl
+table_back Undivided = refl
+table_back (Slice d) = refl
+table_back (Order k) = refl
+table_back (Overlap k) = refl
+table_back (Joint k) = refl
+table_back (Twice k) = refl
+table_back (OffService d) = refl
 
-reply_back : (x : Answer) → answer_for NoReply Replies (answer_as x) ≡ x
-unfolding answer_for
-reply_back (Replies r) = refl
-reply_back (NoReply x) = refl
+refusal_back : (x : Refusal) → refusal_for (number_of x) (place_of x) ≡ x
+unfolding refusal_for
+refusal_back Engines = refl
+refusal_back Lengths = refl
+refusal_back Duties = refl
+refusal_back (Period d) = refl
+refusal_back (Service d) = refl
+refusal_back (PartSlice d) = refl
+refusal_back Overload = refl
+refusal_back (Room needed) = refl
+refusal_back (Input line) = refl
+refusal_back (Table f) = table_back f
+refusal_back NoEngine = refl
+refusal_back ManyBlocks = refl
+refusal_back StrangeState = refl
+refusal_back LastBlock = refl
+refusal_back ManyShareBlocks = refl
+refusal_back (ShareBlock b) = refl
+refusal_back BlockLength = refl
+refusal_back (Lent needed) = refl
 
-row_back : (x : RowTold) → answer_for NoRow At (row_as x) ≡ x
-unfolding answer_for
-row_back (At r) = refl
-row_back (NoRow x) = refl
+-- the result of an outcome
+result_for : {A : Type 0} → Outcome A → Result A Refusal
+result_for (refused n p) = Err (refusal_for n p)
+result_for (answer a) = Ok a
 
-count_back : (x : Counted) → answer_for NoCount Loads (count_as x) ≡ x
-unfolding answer_for
-count_back (Loads n) = refl
-count_back (NoCount x) = refl
+result_back : {A : Type 0} (x : Result A Refusal) → result_for (outcome_of x) ≡ x
+unfolding result_for
+result_back (Ok a) = refl
+result_back (Err x) = ap Err (refusal_back x)
 
-shares_back : (x : SharesTold) → answer_for NotGiven Given (shares_as x) ≡ x
-unfolding answer_for
-shares_back (Given r) = refl
-shares_back (NotGiven x) = refl
+judged_for : Outcome Reading → Result Reading Fault
+judged_for (refused n p) = Err (fault_for n p)
+judged_for (answer r) = Ok r
 
-share_answer_back : (x : ShareAnswer) → answer_for NoAnswer Holds (share_answer_as x) ≡ x
-unfolding answer_for
-share_answer_back (Holds h) = refl
-share_answer_back (NoAnswer x) = refl
+judged-back : (x : Result Reading Fault) → judged_for (judged_as x) ≡ x
+unfolding judged_for
+judged-back (Ok r) = refl
+judged-back (Err f) = ap Err (fault-back f)
 
-verdict_back : (s : State) (v : Verdict) → answer_for NotDone (λ a. Done) (verdict_as v s) ≡ v
-unfolding answer_for
-verdict_back s Done = refl
-verdict_back s (NotDone x) = refl
+verdict_for : {A : Type 0} → Outcome A → Result ⊤ Refusal
+verdict_for (refused n p) = Err (refusal_for n p)
+verdict_for (answer a) = Ok tt
+
+verdict_back : (s : State) (v : Result ⊤ Refusal) → verdict_for (verdict_as v s) ≡ v
+unfolding verdict_for
+verdict_back s (Ok u) = refl
+verdict_back s (Err x) = ap Err (refusal_back x)
 
 -- ---- one outcome
 
+-- whatever answers or is refused
+pub outcome_one : {A : Type 0} {o : Outcome A} {x y : Result A Refusal} → outcome_of x ≡ o → outcome_of y ≡ o → x ≡ y
+outcome_one p q = one_to_one outcome_of result_for result_back (p ∙ sym q)
+
 -- the judge
-pub judged_one : {x y : Judged} {o : Outcome Reading} → judged_as x ≡ o → judged_as y ≡ o → x ≡ y
-judged_one p q = one_to_one judged_as (answer_for (λ r. Bad (fault_of r)) Accepted) judged-back (p ∙ sym q)
+pub judged_one : {x y : Result Reading Fault} {o : Outcome Reading} → judged_as x ≡ o → judged_as y ≡ o → x ≡ y
+judged_one p q = one_to_one judged_as judged_for judged-back (p ∙ sym q)
 
 -- whatever writes: the builder, and the text of a plan
-pub written_one : {o : Outcome (List ℕ)} {x y : Written} {before a b : List ℕ} → Writes o x before a → Writes o y before b → (x ≡ y)
-    × (a ≡ b)
-written_one p q = (one_to_one written_as (answer_for NotWritten Length) written_back (p.said ∙ sym q.said), p.left ∙ sym q.left)
+pub written_one : {o : Outcome (List ℕ)} {x y : Result ℕ Refusal} {before a b : List ℕ} → Writes o x before a → Writes o y before b
+    → (x ≡ y) × (a ≡ b)
+written_one p q = (outcome_one p.said q.said, p.left ∙ sym q.left)
 
 -- the question
-pub reply_one : {x y : Answer} {o : Outcome Reply} → answer_as x ≡ o → answer_as y ≡ o → x ≡ y
-reply_one p q = one_to_one answer_as (answer_for NoReply Replies) reply_back (p ∙ sym q)
+pub reply_one : {x y : Result Reply Refusal} {o : Outcome Reply} → outcome_of x ≡ o → outcome_of y ≡ o → x ≡ y
+reply_one p q = outcome_one p q
 
 -- the dispatcher: the verdict and the whole state, on a refusal too; and the row of an engine
 pub dispatched_one : {o : Outcome State} {x y : Dispatched} → Hands o x → Hands o y → x ≡ y
 dispatched_one {o} {x} {y} p q =
     let s : x.state ≡ y.state = p.holds ∙ sym q.holds in
     let v : x.verdict ≡ y.verdict =
-    one_to_one (λ w. verdict_as w y.state) (answer_for NotDone (λ a. Done)) (verdict_back y.state)
+    one_to_one (λ w. verdict_as w y.state) verdict_for (verdict_back y.state)
     (ap (verdict_as x.verdict) (sym s) ∙ p.said ∙ sym q.said) in
     λ i. record { verdict = v i; state = s i }
 
-pub row-told_one : {x y : RowTold} {o : Outcome Row} → row_as x ≡ o → row_as y ≡ o → x ≡ y
-row-told_one p q = one_to_one row_as (answer_for NoRow At) row_back (p ∙ sym q)
+pub row-told_one : {x y : Result Row Refusal} {o : Outcome Row} → outcome_of x ≡ o → outcome_of y ≡ o → x ≡ y
+row-told_one p q = outcome_one p q
 
 -- the count
-pub counted_one : {x y : Counted} {o : Outcome ℕ} → count_as x ≡ o → count_as y ≡ o → x ≡ y
-counted_one p q = one_to_one count_as (answer_for NoCount Loads) count_back (p ∙ sym q)
+pub counted_one : {x y : Result ℕ Refusal} {o : Outcome ℕ} → outcome_of x ≡ o → outcome_of y ≡ o → x ≡ y
+counted_one p q = outcome_one p q
 
 -- the builder of shares, and the question to its plan
-pub shares_one : {o : Outcome Sharing} {x y : SharesTold} {before a b : List ℕ} → GivesShares o x before a → GivesShares o y before b
-    → (x ≡ y) × (a ≡ b)
-shares_one p q = (one_to_one shares_as (answer_for NotGiven Given) shares_back (p.said ∙ sym q.said), p.left ∙ sym q.left)
+pub shares_one : {o : Outcome Sharing} {x y : Result ShareReading Refusal} {before a b : List ℕ} → GivesShares o x before a
+    → GivesShares o y before b → (x ≡ y) × (a ≡ b)
+shares_one p q = (outcome_one p.said q.said, p.left ∙ sym q.left)
 
-pub share_answer_one : {x y : ShareAnswer} {o : Outcome Held} → share_answer_as x ≡ o → share_answer_as y ≡ o → x ≡ y
-share_answer_one p q = one_to_one share_answer_as (answer_for NoAnswer Holds) share_answer_back (p ∙ sym q)
+pub share_answer_one : {x y : Result Held Refusal} {o : Outcome Held} → outcome_of x ≡ o → outcome_of y ≡ o → x ≡ y
+share_answer_one p q = outcome_one p q
 
 -- every call of the face: one word, and one state of what was lent; of the builder's the table too, of the builder of shares' the list
 pub told_one :

@@ -99,6 +99,7 @@ impl<'a> Headed<'a> {
             block_length: self.head.block_length,
             engines: self.head.engines,
             duties: self.head.duties,
+            // `as`, since no number is lost (proved): `try_from` would have an error to answer for that never comes.
             runs: runs as u32,
         }
     }

@@ -31,6 +31,7 @@ fn edge(x: Run, unit: u32, old: Edge) -> Edge
     ensures { result ≡ pick (covers x x.row unit) (Some x.duty) old }
 {
     if run_covers(x, x.row, unit) {
+        // `as`, since no number is lost (proved): `try_from` would have an error to answer for that never comes.
         Some(x.duty as u8)
     } else {
         old

@@ -33,8 +33,7 @@ returns-then-not-line_good c =
     let b = c.args.b.now in
     let loop = c.loop-at in
     let bad = sym c.line_good.ensures ∙ c.if-not-line_good.true in
-    c.faulty.ensures
-    ∙ broken b loop.services loop.periods c.args.engines loop.i loop.at (rest b loop.at) c.find-end.result
+    broken b loop.services loop.periods c.args.engines loop.i loop.at (rest b loop.at) c.find-end.result
     loop.invariant.2 (lent-rest loop.at b) c.find-end.ensures.value (search rules) bad
 
 pub slice_bounds-duty_read-end : goal.slice_bounds-duty_read-end
