@@ -15,7 +15,8 @@ use search::lowest;
 use slices::{duty_in_range, gcd_of_all, is_within, range_fault};
 use std::marker::Model;
 
-// The duties, where they were lent as two lists, of services and of periods, and have passed tests 2 to 5.
+// The duties, where they were lent as two lists, of services and of periods, and have passed tests 2 to 5. Contracts see the duties.
+// Two lists, not one of duties (a): the outside calls and the C interface lend them so.
 #[derive(Drop)]
 pub struct Duties<'a> {
     services: &'a [u32],
@@ -50,6 +51,7 @@ impl<'a> Duties<'a> {
         ensures value { result ≡ duty_at self.now i }
         ensures ranged { DutyRanged result }
     {
+        // Taken out first, so that what holds of both lists is known where they are indexed.
         let services = self.services;
         let periods = self.periods;
         Duty {

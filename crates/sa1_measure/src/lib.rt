@@ -6,6 +6,7 @@ ghost use Rattle.std.specs.Prelude.{◌≡◌, ◌≤◌, ◌<◌, length};
 ghost use Rattle.paper.specs.Duties.{duty_at};
 ghost use Rattle.paper.specs.Limits.{most_engines, most_ticks};
 ghost use Rattle.paper.specs.Statements.{DutyRanged};
+ghost use Rattle.duty_lists.specs.Listed.{Listed};
 ghost use Rattle.sa1_measure.specs.Layings.{laying, Layable};
 ghost use Rattle.sa1_measure.specs.Layouts.{Measured};
 
@@ -39,7 +40,6 @@ impl<'a> Laying<'a> {
         requires { (1 ≤ ticks) × (ticks ≤ most_ticks) × (engines ≤ most_engines) }
         ensures { result ≡ laying ticks engines duties.entry }
     {
-        let _count = duties.len();
         Laying {
             ticks,
             engines,
@@ -65,7 +65,7 @@ impl<'a> Laying<'a> {
     // How many duties there are.
     pub fn duty_count(&self) -> usize
         ensures value { result ≡ length self.now.duties }
-        ensures layable { Layable self.now }
+        ensures listed { Listed self.now.duties }
     {
         self.duties.len()
     }

@@ -15,7 +15,7 @@ use Rattle.sa1_table.proofs.put_records.Goals.{After-share_of}
 
 pub loop-i-init : goal.loop-i-init
 loop-i-init c =
-    rw c.duty_count-count.ensures.value (recording_none _ _ _ c.requires c.duty_count-count.ensures.layable.ticks_least)
+    rw c.duty_count-count.ensures.value (recording_none _ _ _ c.requires c.ticks-ticks.ensures.layable.ticks_least)
 
 -- there is a duty i, ..
 here : (c : After-share_of) → c.loop-i.i < length c.args.laying.now.duties
