@@ -2,7 +2,7 @@
 -- cuts of all blocks, since the second leaves what the first has kept.
 -- Assumes nothing.
 use Prim.Native.Nat.{ℕ, ◌+◌, ◌≤◌, ◌<◌}
-use mathlib.Core.Path.{◌≡◌, refl, ◌∙◌}
+use mathlib.Core.Path.{◌≡◌, ◌∙◌}
 use mathlib.Core.List.{List}
 use native.Mathlib.Omega.{arith}
 use lib.ListN.{length, set}
@@ -11,9 +11,6 @@ use Rattle.laws.proofs.Cases.{lt_or_le}
 use Rattle.paper.specs.Sa2.{Sharing}
 use Rattle.share_laws.specs.Cut.{cut_at, HasCuts}
 use Rattle.share_pass.specs.Passing.{CutsKept}
-
-pub kept_none : (s : Sharing) (from : ℕ) (cuts : List ℕ) → CutsKept s from from cuts cuts
-kept_none s from cuts = record { has = λ b x y. absurd (omega arith); earlier = λ b h. refl }
 
 pub kept_more :
     {s : Sharing} {from b : ℕ} {before cuts : List ℕ} (cut : ℕ) → CutsKept s from b before cuts → from ≤ b → b < length cuts
@@ -26,10 +23,6 @@ kept_more {s} {from} {b} {before} {cuts} cut k h l e =
           (λ z. let q : j ≡ b = omega arith in rw q (get_or-set_same cuts b cut 0 l ∙ e));
       earlier = λ j x. get_or-set_other cuts b j cut 0 (λ q. omega arith) ∙ k.earlier j x;
     }
-
--- up to the same block
-pub kept_to : {s : Sharing} {from b to : ℕ} {before cuts : List ℕ} → CutsKept s from b before cuts → b ≡ to → CutsKept s from to before cuts
-kept_to k e = rw (← e) k
 
 -- one pass after the other
 pub kept_both :

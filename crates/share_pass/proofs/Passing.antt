@@ -2,8 +2,8 @@
 -- if it were laid over the list as it was lent: what the last block gave is all that is left of them.
 -- Assumes nothing.
 use Prim.Native.Nat.{ℕ, ◌+◌, ◌≤◌, ◌<◌}
-use mathlib.Core.Path.{◌≡◌, refl, sym, ap, ◌∙◌}
-use mathlib.Core.Bool.{true, false}
+use mathlib.Core.Path.{◌≡◌, sym, ◌∙◌}
+use mathlib.Core.Bool.{false}
 use mathlib.Core.List.{List}
 use native.Mathlib.Omega.{arith}
 use lib.ListN.{length, set}
@@ -11,12 +11,11 @@ use Rattle.std.specs.Prelude.{Some}
 use Rattle.laws.specs.Lists.{over}
 use Rattle.laws.proofs.Cases.{lt_or_le}
 use Rattle.laws.proofs.Turned.{over_again}
-use Rattle.paper.specs.declared.Refusal.TheVariants.{ShareBlock}
 use Rattle.paper.specs.Sa2.{duty_count, allotments}
 use Rattle.share_laws.proofs.OnLine.{allotments-length}
 use Rattle.share_block.specs.Paced.{Pace, pace, short_at, Shared}
-use Rattle.share_pass.specs.Passing.{CutsKept, Passed, Stopped}
-use Rattle.share_pass.proofs.Keeping.{kept_none, kept_more, kept_to}
+use Rattle.share_pass.specs.Passing.{CutsKept}
+use Rattle.share_pass.proofs.Keeping.{kept_more}
 
 -- the blocks from the next of p to before b are passed
 pub record Passing (p : Pace) (to : ℕ) (units cuts : List ℕ) (b : ℕ) (q : Pace) (units' cuts' : List ℕ) : Type 0 where
@@ -27,18 +26,6 @@ pub record Passing (p : Pace) (to : ℕ) (units cuts : List ℕ) (b : ℕ) (q : 
   pub alike : (l : List ℕ) → length l ≡ duty_count p.sharing → over l units' ≡ over l units
   pub last : (k : ℕ) → k + 1 ≡ b → p.block ≤ k → units' ≡ over (allotments p.sharing k) units
   pub kept : CutsKept p.sharing p.block b cuts cuts'
-
-pub passing_none : (p : Pace) (to : ℕ) (units cuts : List ℕ) → p.block ≤ to → Passing p to units cuts p.block p units cuts
-passing_none p to units cuts h =
-    record {
-      least = omega arith;
-      most = h;
-      clear = λ k x y. absurd (omega arith);
-      paced = refl;
-      alike = λ l e. refl;
-      last = λ k x y. absurd (omega arith);
-      kept = kept_none p.sharing p.block cuts;
-    }
 
 module _ {p : Pace} {to b : ℕ} {q : Pace} {units cuts units' cuts' : List ℕ} (g : Passing p to units cuts b q units' cuts') where
   -- one block more that does not come short
@@ -57,18 +44,4 @@ module _ {p : Pace} {to b : ℕ} {q : Pace} {units cuts units' cuts' : List ℕ}
         alike = λ l n. rw gives (over_again l (allotments s b) units' (n ∙ sym (allotments-length s b)) ∙ g.alike l n);
         last = λ k x y. let e : k ≡ b = omega arith in rw e (gives ∙ g.alike (allotments s b) (allotments-length s b));
         kept = kept_more cut g.kept g.least l (rw g.paced at t.1);
-      }
-
-  -- the pass ends at a block that comes short, ..
-  pub passing_stop : b < to → short_at q.sharing q.block ≡ true → Stopped p to (ShareBlock b)
-  passing_stop h f = record { block = b; told = refl; most = h; clear = g.clear; stopped = rw g.paced at f }
-
-  -- .. or after the last one
-  pub passing_end : b ≡ to → Passed p to units cuts q units' cuts'
-  passing_end e =
-      record {
-        clear = λ k x y. g.clear k x (omega arith);
-        paced = g.paced ∙ ap (pace p.sharing) e;
-        last = λ k x y. g.last k (omega arith) y;
-        kept = kept_to g.kept e;
       }

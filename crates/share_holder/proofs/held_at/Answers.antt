@@ -23,11 +23,6 @@ not ns i left p l a h =
     let d : drop (suc i) ns ≡ drop (i + 1) ns = rw add-one in
     rw (drop-cons ns i 0 l, ← e, d) (first_not (get_or ns i 0) (drop (i + 1) ns) i (p - left) p (omega arith) (omega arith))
 
-pub loop-i-init : goal.loop-i-init
-loop-i-init c =
-    let e : c.args.place - c.args.place ≡ 0 = omega arith in
-    (omega arith, rw e)
-
 pub returns-then-left-n : goal.returns-then-left-n
 returns-then-left-n c =
     let loop = c.loop-i in

@@ -33,9 +33,6 @@ loop-i-preserved c =
       rated = record { periods_are = inv.rated.periods_are; rates = inv.rated.rates; rests = inv.rated.rests };
     }
 
-pub overflow_add-self : goal.overflow_add-self
-overflow_add-self c = omega (arith, ap (λ (p : Pace). p.block) c.self.view_is, c.requires.block_most)
-
 pub invariant_of-self : goal.invariant_of-self
 invariant_of-self c =
     let p = opened c.self.view_is c.self.invariant in
