@@ -9,62 +9,57 @@ use native.Mathlib.Omega.{arith}
 use lib.Dec.{eqb}
 use borrow.Author.Tests.{eqb-false}
 use Rattle.laws.specs.Choice.{pick}
-use Rattle.laws.specs.Divisor.{gcd_of}
 use Rattle.laws.proofs.Cases.{by_cases}
 use Rattle.laws.proofs.Decides.{Not}
 use Rattle.paper.specs.declared.Refusal.{Refusal}
-use Rattle.paper.specs.declared.Verdict.{Verdict}
-use Rattle.paper.specs.declared.Verdict.TheVariants.{Refused}
-use Rattle.paper.specs.Words.{Table}
-use Rattle.paper.specs.Outcome.{Outcome, refused, and_then, refused_as, verdict_as}
+use Rattle.paper.specs.Limits.{most_ticks}
+use Rattle.paper.specs.Words.{block_length_of, Table}
+use Rattle.paper.specs.Outcome.{Outcome, refused, and_then, refused_as, number_of, place_of}
 use Rattle.paper.specs.Bytes.{bytes_of}
 use Rattle.paper.specs.Wanted.{Wanted, duty_set, taken}
 use Rattle.paper.specs.Builder.{plan_at, fitted, build}
 use Rattle.paper.specs.Statements.{CommonDivisor}
+use Rattle.paper.proofs.Passed.{From}
+use Rattle.table_laws.proofs.Accepted.{common_when}
 use Rattle.plan_laws.proofs.TakenWhen.{Taken}
 use Rattle.plan_laws.proofs.PlanWhen.{ticks_for, not_taken, not_common, plan_when, past_common}
-use Rattle.duty_lists.specs.Sliceable.{Sliceable}
-use Rattle.duty_lists.proofs.AfterTests.{block_is, common_is, sliceable_by, sliceable}
+use Rattle.duty_lists.proofs.AfterTests.{listed, within_by, greatest_within}
 use Rattle.builder.specs.BuildAt.{build_at}
 
 -- what the tests refuse is not built
-pub not_built :
-    (wish : ℕ) (x : Wanted) (v : Verdict) → verdict_as v (duty_set x) ≡ taken x → (why : Refusal) (room : ℕ) → v ≡ Refused why
-    → build wish x room ≡ refused_as why
-not_built wish x v h why room e =
-    let refuses : taken x ≡ refused_as why = sym h ∙ rw e in
-    rw ((plan_when wish x _).1 (not_taken why.number why.place refuses refl))
+pub not_built : (wish : ℕ) (x : Wanted) (why : Refusal) (room : ℕ) → taken x ≡ refused_as why → build wish x room ≡ refused_as why
+not_built wish x why room h = rw ((plan_when wish x _).1 (not_taken (number_of why) (place_of why) h refl))
 
 -- past the tests, the two numbers
 pub record Lengths (wish : ℕ) (x : Wanted) (g t : ℕ) : Type 0 where
   pub takes : Taken x
-  pub greatest : g ≡ gcd_of x.periods
+  pub greatest : g ≡ block_length_of (duty_set x)
   pub meant : t ≡ pick (eqb wish 0) g wish
 
 module _ {wish : ℕ} {x : Wanted} {g t : ℕ} (k : Lengths wish x g t) where
   meant_is : t ≡ ticks_for wish x
-  meant_is = k.meant ∙ ap (λ (n : ℕ). pick (eqb wish 0) n wish) (k.greatest ∙ sym (block_is x k.takes))
+  meant_is = k.meant ∙ ap (λ (n : ℕ). pick (eqb wish 0) n wish) k.greatest
 
   -- the length that is meant is not 0: a wish is not, nor is the greatest
   pub meant_some : 0 < t
   meant_some =
       by_cases (eqb wish 0)
-      (λ h. rw (k.meant, h, k.greatest) (sliceable x k.takes).ticks_least)
+      (λ h. rw (k.meant, h, k.greatest) (greatest_within (listed x k.takes)).0)
       (λ h. rw (k.meant, h) (omega (arith, eqb-false wish 0 h)))
 
   -- it divides every period exactly where it leaves nothing of the greatest
   common_if : g % t ≡ 0 → CommonDivisor t (duty_set x)
-  common_if h = (common_is x t k.takes).0 (rw (← k.greatest) (dvd_of_mod-eq-zero t h))
+  common_if h = (common_when t (duty_set x)).0 (rw (← k.greatest) (dvd_of_mod-eq-zero t h))
 
   if_common : CommonDivisor t (duty_set x) → g % t ≡ 0
-  if_common d = rw k.greatest (mod-eq-zero_of_dvd t ((common_is x t k.takes).1 d))
+  if_common d = rw k.greatest (mod-eq-zero_of_dvd t ((common_when t (duty_set x)).1 d))
 
   pub refusal_24 : (room : ℕ) → Not (g % t ≡ 0) → build wish x room ≡ refused 24 0
   refusal_24 room n = rw ((plan_when wish x _).1 (not_common refl k.takes (λ d. n (if_common (rw meant_is d)))))
 
   -- past 24 it is in range, and what is taken is built for it
-  pub sliceable_past : g % t ≡ 0 → Sliceable t x.services x.periods
-  sliceable_past h = sliceable_by x t k.takes (common_if h)
+  pub within_past : g % t ≡ 0 → From 1 most_ticks t
+  within_past h = within_by (listed x k.takes) t (common_if h)
 
   pub past_24 : (room : ℕ) → g % t ≡ 0 → build wish x room ≡ build_at t x.engines (duty_set x) room
   past_24 room h =

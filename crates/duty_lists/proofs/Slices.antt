@@ -1,4 +1,4 @@
--- The duties of two lists, one by one: what a duty's share asks for, and the slices that are left at a duty.
+-- The duties of a list, one by one: the slices that are left at a duty.
 -- Assumes nothing.
 use Prim.Native.Nat.{ℕ, ◌+◌, ◌≤◌, ◌<◌}
 use mathlib.Core.Path.{◌≡◌, sym, ap, ◌∙◌}
@@ -12,16 +12,7 @@ use Rattle.laws.proofs.Lists.{drop-map, sum_of_step, sum_of-done}
 use Rattle.paper.specs.declared.Duty.{Duty}
 use Rattle.paper.specs.Duties.{duty, duty_at}
 use Rattle.paper.specs.Words.{slice}
-use Rattle.paper.specs.Limits.{most_ticks}
 use Rattle.paper.specs.Sa1.{slices}
-use Rattle.paper.specs.Wanted.{duties_of}
-use Rattle.duty_lists.specs.Sliceable.{Sliceable}
-
--- what the share of duty i asks for
-pub share_asked :
-    {t : ℕ} {ss ps : List ℕ} {x : Duty} {i : ℕ} → Sliceable t ss ps → i < length ss → x ≡ duty_at (duties_of ss ps) i
-    → (t ≤ most_ticks) × (x.service ≤ most_ticks) × (x.service ≤ x.period) × (0 < x.period)
-share_asked {t} {ss} {ps} {x} {i} fit h e = rw e (omega (arith, fit.ticks_most, fit.ranged i h))
 
 -- the slices that are left at index i begin with duty i's; after the last duty none is left
 pub slices_left :

@@ -1,2 +1,1 @@
-pub mod Sliceable
-pub mod Told
+pub mod Listed

@@ -3,18 +3,20 @@
 
 ghost use Rattle.std.specs.Prelude.{◌≡◌, ◌<◌, length};
 ghost use Rattle.paper.specs.Duties.{duty_at};
+ghost use Rattle.paper.specs.Outcome.{outcome_of};
 ghost use Rattle.paper.specs.Statements.{DutyRanged};
 ghost use Rattle.paper.specs.Wanted.{wanted, duties_of, bad_range, taken};
 ghost use Rattle.paper.specs.Words.{block_length_of};
-ghost use Rattle.duty_lists.specs.Sliceable.{Paired, Listed};
-ghost use Rattle.duty_lists.specs.Told.{told};
+ghost use Rattle.duty_lists.specs.Listed.{Listed};
 
 use paper::limits::{MOST_DUTIES, MOST_ENGINES};
 use paper::{Duty, Refusal};
+use search::lowest;
 use slices::{duty_in_range, gcd_of_all, is_within, range_fault};
 use std::marker::Model;
 
-// The duties, where they were lent as two lists, of services and of periods, and have passed tests 2 to 5.
+// The duties, where they were lent as two lists, of services and of periods, and have passed tests 2 to 5. Contracts see the duties.
+// Two lists, not one of duties (a): the outside calls and the C interface lend them so.
 #[derive(Drop)]
 pub struct Duties<'a> {
     services: &'a [u32],
@@ -25,7 +27,7 @@ impl<'a> Model for Duties<'a> {
     ghost use Rattle.std.specs.Prelude.{◌≡◌, List, length};
     ghost use Rattle.paper.specs.declared.Duty.{Duty};
     ghost use Rattle.paper.specs.Wanted.{duties_of};
-    ghost use Rattle.duty_lists.specs.Sliceable.{Listed};
+    ghost use Rattle.duty_lists.specs.Listed.{Listed};
 
     ghost Value = { List Duty };
 
@@ -49,6 +51,7 @@ impl<'a> Duties<'a> {
         ensures value { result ≡ duty_at self.now i }
         ensures ranged { DutyRanged result }
     {
+        // Taken out first, so that what holds of both lists is known where they are indexed.
         let services = self.services;
         let periods = self.periods;
         Duty {
@@ -65,30 +68,17 @@ impl<'a> Duties<'a> {
     }
 }
 
-// Duty i of the two lists.
-pub fn duty_at(services: &[u32], periods: &[u32], i: usize) -> Duty
-    requires { (i < length services.now) × (length services.now ≡ length periods.now) }
-    ensures { result ≡ duty_at (duties_of services.now periods.now) i }
-{
-    Duty {
-        service: services[i],
-        period: periods[i],
-    }
-}
-
 // The first duty whose period or service is out of range, or how many there are.
 fn bad_range(services: &[u32], periods: &[u32]) -> usize
-    requires { Paired services.now periods.now }
+    requires { length services.now ≡ length periods.now }
     ensures { result ≡ bad_range (duties_of services.now periods.now) }
 {
-    let mut i = 0;
-    while i < services.len() {
-        if !duty_in_range(duty_at(services, periods, i)) {
-            return i;
-        }
-        i += 1;
-    }
-    i
+    lowest(0, services.len(), |i| {
+        !duty_in_range(Duty {
+            service: services[i],
+            period: periods[i],
+        })
+    })
 }
 
 // Takes the duties of the two lists, after tests 1 to 5 in their order.
@@ -97,31 +87,22 @@ pub fn take_duties<'a>(
     services: &'a [u32],
     periods: &'a [u32],
 ) -> Result<Duties<'a>, Refusal>
-    ensures { told result ≡ taken (wanted engines services.now periods.now) }
+    ensures { outcome_of result ≡ taken (wanted engines services.now periods.now) }
 {
+    // `as`, since std has no `From` from `u32` to `usize`.
     if !is_within(1, MOST_ENGINES, engines as usize) {
-        return Err(Refusal {
-            number: 1,
-            place: 0,
-        });
+        return Err(Refusal::Engines);
     }
     let duties = services.len();
     if duties != periods.len() {
-        return Err(Refusal {
-            number: 2,
-            place: 0,
-        });
+        return Err(Refusal::Lengths);
     }
     if !is_within(1, MOST_DUTIES, duties) {
-        return Err(Refusal {
-            number: 3,
-            place: 0,
-        });
+        return Err(Refusal::Duties);
     }
     let bad = bad_range(services, periods);
     if bad < duties {
-        let why = range_fault(periods[bad], bad);
-        return Err(why);
+        return Err(range_fault(periods[bad], bad));
     }
     Ok(Duties { services, periods })
 }

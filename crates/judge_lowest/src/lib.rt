@@ -11,7 +11,7 @@ ghost use Rattle.table_tally.specs.Tally.{units_in};
 use paper::limits::MOST_DUTIES;
 use record_read::TableBytes;
 use search::lowest;
-use slices::{is_whole, slice_of};
+use slices::share_of;
 
 // 11. Whether T does not divide every period.
 pub fn is_undivided(table: &TableBytes) -> bool
@@ -30,7 +30,7 @@ pub fn bad_slice(table: &TableBytes) -> usize
     lowest(
         0,
         rd.duties as usize,
-        |d| !is_whole(rd.block_length, table.duty(d)),
+        |d| share_of(rd.block_length, table.duty(d)).rest != 0,
     )
 }
 
@@ -43,6 +43,6 @@ pub fn bad_sum(table: &TableBytes, units: &[u32; MOST_DUTIES]) -> usize
     lowest(
         0,
         rd.duties as usize,
-        |i| units[i] != slice_of(rd.block_length, table.duty(i)),
+        |i| units[i] != share_of(rd.block_length, table.duty(i)).units,
     )
 }

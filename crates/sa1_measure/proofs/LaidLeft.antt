@@ -10,7 +10,7 @@ use Rattle.paper.specs.Duties.{duty_at}
 use Rattle.paper.specs.Words.{slice}
 use Rattle.paper.specs.Sa1.{slices}
 use Rattle.plan_laws.proofs.Sa1.{lay_step, lay_end}
-use Rattle.duty_lists.proofs.Duties.{slices_left, slices_none}
+use Rattle.duty_lists.proofs.Slices.{slices_left, slices_none}
 use Rattle.sa1_runs.specs.declared.Place.{Place}
 use Rattle.sa1_runs.specs.Laying.{place_after, laid_at, laid_from, runs_at}
 use Rattle.sa1_runs.proofs.Laying.{laid_length}

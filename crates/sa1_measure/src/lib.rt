@@ -1,52 +1,100 @@
-// SA1's slices measured: whether they are whole, how many runs they make, and where they end, which tells whether they fit. Nothing is
-// written.
+// What SA1 lays, as one value; and its slices measured: whether they are whole, how many runs they make, and where they end, which tells
+// whether they fit. Nothing is written.
 #![tactic(auto)]
 
-ghost use Rattle.paper.specs.Wanted.{duties_of};
-ghost use Rattle.duty_lists.specs.Sliceable.{Sliceable};
+ghost use Rattle.std.specs.Prelude.{◌≡◌, ◌≤◌, ◌<◌, length};
+ghost use Rattle.paper.specs.Duties.{duty_at};
+ghost use Rattle.paper.specs.Limits.{most_engines, most_ticks};
+ghost use Rattle.paper.specs.Statements.{DutyRanged};
+ghost use Rattle.duty_lists.specs.Listed.{Listed};
+ghost use Rattle.sa1_measure.specs.Layings.{laying, Layable};
 ghost use Rattle.sa1_measure.specs.Layouts.{Measured};
 
-use duty_lists::duty_at;
-use paper::Row;
-use sa1_runs::{Place, after, runs_at};
+use duty_lists::Duties;
+use paper::{Duty, Refusal};
+use sa1_runs::{Layout, Place, Slice};
 use slices::share_of;
+use std::marker::Model;
 
-// What the slices come to when they are laid one after the other: the first duty whose slice is not whole, or how many there are; how many
-// runs they make up to it; and the place after the last of these.
-#[derive(Clone, Copy)]
-pub struct Layout {
-    pub bad: usize,
-    pub runs: usize,
-    pub end: Place,
+// What SA1 lays: the duties that were taken, in blocks of so many units, on so many engines.
+#[derive(Drop)]
+pub struct Laying<'a> {
+    ticks: u32,
+    engines: u32,
+    duties: Duties<'a>,
 }
 
-// Lays the slices of all duties by SA1, from unit 0 of row 0 on, up to the first that is not whole, and writes nothing.
-pub fn measure(t: u32, services: &[u32], periods: &[u32]) -> Layout
-    requires { Sliceable t services.now periods.now }
-    ensures { Measured t (duties_of services.now periods.now) result }
-{
-    let mut runs = 0;
-    let mut place = Place {
-        row: Row(0),
-        unit: 0,
-    };
-    let mut i = 0;
-    while i < services.len() {
-        let share = share_of(t, duty_at(services, periods, i));
-        if 0 < share.rest {
-            return Layout {
-                bad: i,
-                runs,
-                end: place,
-            };
+impl<'a> Model for Laying<'a> {
+    ghost use Rattle.sa1_measure.specs.Layings.{Laid, laying, Layable};
+
+    ghost Value = { Laid };
+
+    ghost view = { λ a. laying a.ticks a.engines a.duties };
+
+    ghost invariant = { λ a. Layable (laying a.ticks a.engines a.duties) };
+}
+
+impl<'a> Laying<'a> {
+    // Taken duties, in blocks of any length in range.
+    pub fn new(ticks: u32, engines: u32, duties: Duties<'a>) -> Laying<'a>
+        requires { (1 ≤ ticks) × (ticks ≤ most_ticks) × (engines ≤ most_engines) }
+        ensures { result ≡ laying ticks engines duties.entry }
+    {
+        Laying {
+            ticks,
+            engines,
+            duties,
         }
-        runs += runs_at(t, share.units, place.unit);
-        place = after(t, share.units, place);
-        i += 1;
     }
-    Layout {
-        bad: i,
-        runs,
-        end: place,
+
+    // The block length.
+    pub fn ticks(&self) -> u32
+        ensures value { result ≡ self.now.ticks }
+        ensures layable { Layable self.now }
+    {
+        self.ticks
+    }
+
+    // The engines.
+    pub fn engines(&self) -> u32
+        ensures { result ≡ self.now.engines }
+    {
+        self.engines
+    }
+
+    // How many duties there are.
+    pub fn duty_count(&self) -> usize
+        ensures value { result ≡ length self.now.duties }
+        ensures listed { Listed self.now.duties }
+    {
+        self.duties.len()
+    }
+
+    // Duty i.
+    pub fn duty(&self, i: usize) -> Duty
+        requires { i < length self.now.duties }
+        ensures value { result ≡ duty_at self.now.duties i }
+        ensures ranged { DutyRanged result }
+    {
+        self.duties.duty(i)
+    }
+
+    // Lays the slices of all duties, from unit 0 of row 0 on, and writes nothing; 6 at the first that is not whole.
+    pub fn measure(&self) -> Result<Layout, Refusal>
+        ensures { Measured self.now.ticks self.now.duties result }
+    {
+        let ticks = self.ticks();
+        let mut runs = 0;
+        let mut place = Place::CORNER;
+        for i in 0..self.duty_count() {
+            let share = share_of(ticks, self.duty(i));
+            if 0 < share.rest {
+                return Err(Refusal::PartSlice(i));
+            }
+            let slice = Slice::new(ticks, share.units, place);
+            runs += slice.runs();
+            place = slice.after();
+        }
+        Ok(Layout { runs, end: place })
     }
 }

@@ -50,16 +50,6 @@ runs_one t n u e = lt_or_le t (u + n) (λ h. omega (arith, runs_split t n u h)) 
 pub runs_two : (t n u : ℕ) → (runs_at t n u ≡ 1 → ⊥) → (t < u + n) × (runs_at t n u ≡ 2)
 runs_two t n u f = lt_or_le t (u + n) (λ h. (h, runs_split t n u h)) (λ h. absurd (f (runs_whole t n u h)))
 
-pub runs_least : (t n u : ℕ) → 1 ≤ runs_at t n u
-runs_least t n u = lt_or_le t (u + n) (λ h. omega (arith, runs_split t n u h)) (λ h. omega (arith, runs_whole t n u h))
-
--- the first is all of the slice, or what the row has left
-pub first-whole : (t n i : ℕ) (p : Place) → p.unit + n ≤ t → first_run t n i p ≡ run p.row.0 i p.unit n
-first-whole t n i p h = rw (le-leb (p.unit + n) t)
-
-pub first_cut : (t n i : ℕ) (p : Place) → t < p.unit + n → first_run t n i p ≡ run p.row.0 i p.unit (t - p.unit)
-first_cut t n i p h = rw (lt-leb (p.unit + n) t)
-
 -- which runs they are, and how many
 module _ (t n i : ℕ) (p : Place) where
   laid_by :

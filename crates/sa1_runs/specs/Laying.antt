@@ -14,6 +14,15 @@ place_after t n p = record { row = row (row_after t n p.row.0 p.unit); unit = un
 abbrev pub corner : Place
 corner = record { row = row 0; unit = 0 }
 
+-- a slice of so many units, where a row has so many, from a place on
+pub record Cut : Type 0 where
+  pub ticks : ℕ
+  pub units : ℕ
+  pub from : Place
+
+abbrev pub cut : ℕ → ℕ → Place → Cut
+cut t n p = record { ticks = t; units = n; from = p }
+
 -- a duty's runs, and those of all slices, from a place on
 abbrev pub laid_at : ℕ → ℕ → ℕ → Place → List Run
 laid_at t n i p = lay_one t n i p.row.0 p.unit

@@ -52,12 +52,8 @@ recording_none t ds l h some =
     }
 
 module _ {t : ℕ} {ds : List Duty} {l out : List ℕ} {at i : ℕ} {p : Place} (r : Recording t ds l out at i p) (h : i < length ds) where
-  -- the next duty has room, ..
-  pub duty_room : duty_length * i + duty_length ≤ length out
-  duty_room = omega (arith, r.room, r.long)
-
   module _ (n : ℕ) (q : Place) (e : n ≡ slice t (duty_at ds i)) (f : q ≡ place_after t n p) where
-    -- .. and so have its runs
+    -- the runs of the next duty have room
     pub runs_room : at + run_length small * runs_at t n p.unit ≤ length out
     runs_room =
         let left = laid_from t (drop i (slices t ds)) i p in

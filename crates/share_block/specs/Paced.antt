@@ -1,36 +1,40 @@
--- What stands in the four lists on the way: the duties' shares, and their needs before a block.
-use Rattle.std.specs.Prelude.{ℕ, ◌/◌, ◌%◌, ◌≡◌, Bool, List, length}
+-- How duties go on block after block, and what stands in their lists on the way: their shares, and their needs before a block.
+use Rattle.std.specs.Prelude.{ℕ, ◌+◌, ◌/◌, ◌%◌, ◌<◌, ◌≤◌, ◌≡◌, Bool, true, false, Option, Some, None, List, length, get_or}
 use Rattle.laws.specs.Search.{any}
 use Rattle.laws.specs.Sum.{sum_to}
-use Rattle.laws.specs.Lists.{tab}
-use Rattle.paper.specs.Wanted.{duties_of}
-use Rattle.paper.specs.Sa2.{Sharing, sharing, duty_count, duty_of, share_of, whole_of, part_of, free, needs_at}
+use Rattle.laws.specs.Lists.{over}
+use Rattle.paper.specs.Limits.{most_duties}
+use Rattle.paper.specs.Sa2.{Sharing, duty_count, duty_of, share_of, whole_of, part_of, free, needs_at, allotments}
 use Rattle.share_laws.specs.Short.{lacks, short}
+use Rattle.share_laws.specs.Cut.{cut_at}
+use Rattle.share_common.specs.Common.{Shareable}
+use Rattle.share_block.specs.declared.Lists.{Lists}
 
--- the blocks of the duties of two lists
-abbrev pub sharing_by : (t engines : ℕ) (ss ps : List ℕ) → Sharing
-sharing_by t m ss ps = sharing t m (duties_of ss ps)
+-- whose blocks are shared out, and the block that is next
+pub record Pace : Type 0 where
+  pub sharing : Sharing
+  pub block : ℕ
 
--- four lists of one entry for each duty
-pub record Lent (ss rate rest whole part : List ℕ) : Type 0 where
-  pub rates : length rate ≡ length ss
-  pub rests : length rest ≡ length ss
-  pub wholes : length whole ≡ length ss
-  pub parts : length part ≡ length ss
+abbrev pub pace : Sharing → ℕ → Pace
+pace s b = record { sharing = s; block = b }
 
--- the shares: "T * C_i / D_i = N_i + F_i", F in D-ths
-pub record Rated (s : Sharing) (rate rest : List ℕ) : Type 0 where
-  pub rates : rate ≡ tab (duty_count s) (λ i. share_of s i / (duty_of s i).period)
-  pub rests : rest ≡ tab (duty_count s) (λ i. share_of s i % (duty_of s i).period)
+-- each duty's period and its share: "T * C_i / D_i = N_i + F_i", F in D-ths
+pub record Rated (s : Sharing) (periods rate rest : List ℕ) : Type 0 where
+  pub periods_are : (i : ℕ) → i < duty_count s → get_or periods i 0 ≡ (duty_of s i).period
+  pub rates : (i : ℕ) → i < duty_count s → get_or rate i 0 ≡ share_of s i / (duty_of s i).period
+  pub rests : (i : ℕ) → i < duty_count s → get_or rest i 0 ≡ share_of s i % (duty_of s i).period
 
--- the needs before block b, each one's whole units raised by 1
+-- its need before block b, the whole units raised by 1
 pub record Needed (s : Sharing) (b : ℕ) (whole part : List ℕ) : Type 0 where
-  pub wholes : whole ≡ tab (duty_count s) (whole_of s (needs_at s b))
-  pub parts : part ≡ tab (duty_count s) (part_of s (needs_at s b))
+  pub wholes : (i : ℕ) → i < duty_count s → get_or whole i 0 ≡ whole_of s (needs_at s b) i
+  pub parts : (i : ℕ) → i < duty_count s → get_or part i 0 ≡ part_of s (needs_at s b) i
 
--- these, and the sum of their whole units
-pub record Paced (s : Sharing) (b : ℕ) (whole part : List ℕ) (total : ℕ) : Type 0 where
-  pub needs : Needed s b whole part
+-- all of these, and the sum of the needs' whole units
+pub record Paced (s : Sharing) (b total : ℕ) (l : Lists) : Type 0 where
+  pub shareable : Shareable s
+  pub rated : Rated s l.periods l.rate l.rest
+  pub needed : Needed s b l.whole l.part
+  pub long : (length l.whole ≡ most_duties) × (length l.part ≡ most_duties)
   pub sum : total ≡ sum_to (duty_count s) (whole_of s (needs_at s b))
 
 -- of block b: its free units, whether some duty would get -1 units there, and whether it comes short
@@ -42,3 +46,10 @@ lack_at s b = any (lacks s (needs_at s b)) (duty_count s)
 
 abbrev pub short_at : Sharing → ℕ → Bool
 short_at s b = short s (needs_at s b)
+
+-- the next block: its cut, where it does not come short; then the paces are before the one after it, and what it gives is laid over a list
+abbrev pub Shared : Pace → List ℕ → Option ℕ → Pace → List ℕ → Type 0
+Shared p before None q after = short_at p.sharing p.block ≡ true
+Shared p before (Some cut) q after =
+    (short_at p.sharing p.block ≡ false) × (cut ≡ cut_at p.sharing p.block) × (cut ≤ most_duties)
+    × (q ≡ pace p.sharing (p.block + 1)) × (after ≡ over (allotments p.sharing p.block) before)

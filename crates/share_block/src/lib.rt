@@ -1,171 +1,190 @@
-// Steps 1, 2 and 4 of SA2 for all duties, block after block. Each duty's share and need stand in four lent lists of one entry for each
-// duty: whole units (`rate`, `whole`) and the part of a unit (`rest`, `part`), the need's whole raised by 1.
+// Steps 1, 2 and 4 of SA2 for all duties, block after block.
 #![tactic(auto)]
 
-ghost use Rattle.std.specs.Prelude.{◌≡◌, ◌+◌, ◌≤◌, length};
+ghost use Rattle.std.specs.Prelude.{◌≡◌, ◌+◌, ◌<◌, ◌≤◌, length, replicate};
 ghost use Rattle.laws.specs.Lists.{over};
-ghost use Rattle.paper.specs.Limits.{most_engines, most_duties};
-ghost use Rattle.paper.specs.Sa2.{allotments};
-ghost use Rattle.duty_lists.specs.Sliceable.{Sliceable};
+ghost use Rattle.paper.specs.Limits.{most_duties};
+ghost use Rattle.paper.specs.Sa2.{duty_count, allotments};
 ghost use Rattle.share_laws.specs.Cut.{cut_at};
-ghost use Rattle.share_block.specs.Paced.{sharing_by, Lent, Rated, Needed, Paced, free_at, lack_at, short_at};
+ghost use Rattle.share_common.specs.Common.{Shareable};
+ghost use Rattle.share_block.specs.Paced.{pace, free_at, lack_at, Shared};
 
-use duty_lists::duty_at;
-use share_turn::{one_if, room_in_block, take_turn, wants_more};
+use paper::limits::MOST_DUTIES;
+use share_common::Sharing;
+use share_turn::{Amount, is_chosen, room_in_block, take_turn, wants_more};
 use slices::share_of;
+use std::marker::Model;
 
-// The duties' shares, and their needs before the first block, for so many engines (which only the contract names). The answer is the sum of
-// the needs' whole units, each raised by 1.
-pub fn begin(
-    t: u32,
-    engines: u32,
-    services: &[u32],
-    periods: &[u32],
-    rate: &mut [u32],
-    rest: &mut [u32],
-    whole: &mut [u32],
-    part: &mut [u32],
-) -> u32
-    requires { Sliceable t services.now periods.now × Lent services.now rate.old rest.old whole.old part.old }
-    ensures rated { Rated (sharing_by t engines services.now periods.now)
-        rate.new rest.new }
-    ensures paced { Paced (sharing_by t engines services.now periods.now) 0
-        whole.new part.new result }
-{
-    let mut total = 0;
-    let mut i = 0;
-    while i < services.len() {
-        let share = share_of(t, duty_at(services, periods, i));
-        rate[i] = share.units;
-        rest[i] = share.rest;
-        whole[i] = share.units + 1;
-        part[i] = share.rest;
-        total += share.units + 1;
-        i += 1;
-    }
-    total
+// Room for the duties' periods, shares (`rate` and `rest`) and needs (`whole` and `part`), whose whole units are raised by 1.
+// Lists of numbers, not one of structs (b): the loop over the duties takes several at a time, and over structs takes twice as long.
+#[derive(Drop)]
+pub struct Lists {
+    periods: [u32; MOST_DUTIES],
+    rate: [u32; MOST_DUTIES],
+    rest: [u32; MOST_DUTIES],
+    whole: [u32; MOST_DUTIES],
+    part: [u32; MOST_DUTIES],
 }
 
-// Step 2 of a block, the one of number `block` (which only the contract names, with the engines): the cut, before which the duties that
-// want one of the free units are chosen. It ends where so many have wanted one.
-fn find_cut(
-    t: u32,
-    engines: u32,
-    services: &[u32],
-    periods: &[u32],
+impl Lists {
+    // With nothing in them.
+    pub fn new() -> Lists
+        ensures periods { result.periods ≡ replicate most_duties 0 }
+        ensures rate { result.rate ≡ replicate most_duties 0 }
+        ensures rest { result.rest ≡ replicate most_duties 0 }
+        ensures whole { result.whole ≡ replicate most_duties 0 }
+        ensures part { result.part ≡ replicate most_duties 0 }
+    {
+        Lists {
+            periods: [0; MOST_DUTIES],
+            rate: [0; MOST_DUTIES],
+            rest: [0; MOST_DUTIES],
+            whole: [0; MOST_DUTIES],
+            part: [0; MOST_DUTIES],
+        }
+    }
+}
+
+// How the duties go on: whose blocks are shared out, the block that is next, the sum of the needs' whole units before it, and what the lists
+// hold. The lists are lent, so that nothing is copied; and what goes over the duties is compiled where it is called, so that a pass whose
+// units nobody reads does not write them.
+#[derive(Drop)]
+pub struct Paces<'a> {
+    sharing: &'a Sharing<'a>,
     block: u32,
-    whole: &[u32],
-    part: &[u32],
-    left: u32,
-) -> u32
-    requires sliceable { Sliceable t services.now periods.now
-        × Needed (sharing_by t engines services.now periods.now) block whole.now part.now }
-    requires left_value { left ≡ free_at (sharing_by t engines services.now periods.now) block }
-    ensures { (result ≡ cut_at (sharing_by t engines services.now periods.now) block) × (result ≤ most_duties) }
-{
-    let mut wanting = 0;
-    let mut i = 0;
-    while (i < services.len()) & (wanting < left) {
-        wanting += one_if(wants_more(t, whole[i], part[i]));
-        i += 1;
-    }
-    i as u32
-}
-
-// What the turns of a block come to: the sum of the needs' whole units before the next one, each raised by 1, and whether some duty would
-// get -1 units.
-#[derive(Clone, Copy)]
-pub struct Turns {
-    pub total: u32,
-    pub lacking: bool,
-}
-
-// The duties' turns in one block, the one of number `block`, by its cut: what each duty gets goes to `units`, and the needs move on.
-pub fn share_by_cut(
-    t: u32,
-    engines: u32,
-    services: &[u32],
-    periods: &[u32],
-    rate: &[u32],
-    rest: &[u32],
-    block: u32,
-    cut: u32,
-    whole: &mut [u32],
-    part: &mut [u32],
-    units: &mut [u32],
-) -> Turns
-    requires sliceable { Sliceable t services.now periods.now × (length services.now ≤ length units.old) }
-    requires rated { Rated (sharing_by t engines services.now periods.now) rate.now rest.now }
-    requires needed { Needed (sharing_by t engines services.now periods.now) block whole.old part.old }
-    requires cut_value { cut ≡ cut_at (sharing_by t engines services.now periods.now) block }
-    ensures paced { Paced (sharing_by t engines services.now periods.now) (block + 1)
-        whole.new part.new result.total }
-    ensures lacking_value { result.lacking ≡ lack_at (sharing_by t engines services.now periods.now) block }
-    ensures units_after { units.new
-        ≡ over (allotments (sharing_by t engines services.now periods.now) block) units.old }
-{
-    let mut next = 0;
-    let mut lacking = 0;
-    let mut i = 0;
-    while i < services.len() {
-        let turn = take_turn(
-            t, periods[i], rate[i], rest[i], whole[i], part[i], i as u32, cut,
-        );
-        units[i] = turn.units;
-        whole[i] = turn.whole;
-        part[i] = turn.part;
-        next += turn.whole;
-        lacking += turn.lacking;
-        i += 1;
-    }
-    Turns {
-        total: next,
-        lacking: 0 < lacking,
-    }
-}
-
-// How a block came out: the sum of the needs' whole units before the next one, each raised by 1, whether it came short, and its cut.
-#[derive(Clone, Copy)]
-pub struct Shared {
-    pub total: u32,
-    pub short: bool,
-    pub cut: u32,
-}
-
-// One block, the one of number `block`: its free units, its cut, and the duties' turns.
-pub fn share_block(
-    t: u32,
-    engines: u32,
-    services: &[u32],
-    periods: &[u32],
-    rate: &[u32],
-    rest: &[u32],
-    block: u32,
-    whole: &mut [u32],
-    part: &mut [u32],
     total: u32,
-    units: &mut [u32],
-) -> Shared
-    requires sliceable { Sliceable t services.now periods.now × (engines ≤ most_engines)
-        × (length services.now ≤ length units.old) }
-    requires rated { Rated (sharing_by t engines services.now periods.now) rate.now rest.now }
-    requires paced { Paced (sharing_by t engines services.now periods.now) block whole.old part.old total }
-    ensures paced_2 { Paced (sharing_by t engines services.now periods.now) (block + 1)
-        whole.new part.new result.total }
-    ensures short_value { result.short ≡ short_at (sharing_by t engines services.now periods.now) block }
-    ensures units_after { units.new
-        ≡ over (allotments (sharing_by t engines services.now periods.now) block) units.old }
-    ensures cut_value { (result.cut ≡ cut_at (sharing_by t engines services.now periods.now) block)
-        × (result.cut ≤ most_duties) }
-{
-    let room = room_in_block(t, engines, services.len() as u32, total);
-    let cut = find_cut(t, engines, services, periods, block, whole, part, room.free);
-    let turns = share_by_cut(
-        t, engines, services, periods, rate, rest, block, cut, whole, part, units,
-    );
-    Shared {
-        total: turns.total,
-        short: turns.lacking | room.overfull,
-        cut,
+    lists: &'a mut Lists,
+}
+
+impl<'a> Model for Paces<'a> {
+    ghost use Rattle.share_block.specs.Paced.{Pace, pace, Paced};
+
+    ghost Value = { Pace };
+
+    ghost view = { λ a. pace a.sharing.now a.block };
+
+    ghost invariant = { λ a. Paced a.sharing.now a.block a.total a.lists.now };
+}
+
+impl<'a> Paces<'a> {
+    // Before the first block, where each need is the share itself.
+    #[inline(always)]
+    pub fn begin(sharing: &'a Sharing<'a>, lists: &'a mut Lists) -> Paces<'a>
+        ensures paced { result ≡ pace sharing.now 0 }
+        ensures shareable { Shareable sharing.now }
+    {
+        *lists = Lists::new();
+        let ticks = sharing.ticks();
+        let mut total = 0;
+        for i in 0..sharing.duty_count() {
+            let duty = sharing.duty(i);
+            let share = share_of(ticks, duty);
+            lists.periods[i] = duty.period;
+            lists.rate[i] = share.units;
+            lists.rest[i] = share.rest;
+            lists.whole[i] = share.units + 1;
+            lists.part[i] = share.rest;
+            total += share.units + 1;
+        }
+        Paces {
+            sharing,
+            block: 0,
+            total,
+            lists,
+        }
+    }
+
+    // The block that is next.
+    pub fn block(&self) -> u32
+        ensures { result ≡ self.now.block }
+    {
+        self.block
+    }
+
+    // How many duties there are.
+    pub fn duty_count(&self) -> usize
+        ensures { result ≡ duty_count self.now.sharing }
+    {
+        let sharing = self.sharing;
+        sharing.duty_count()
+    }
+
+    // Step 2: the cut, before which the duties that want one of the free units are chosen. It is where so many have wanted one.
+    #[inline(always)]
+    fn find_cut(&self, free: u32) -> u32
+        requires { free ≡ free_at self.now.sharing self.now.block }
+        ensures { (result ≡ cut_at self.now.sharing self.now.block) × (result ≤ most_duties) }
+    {
+        let sharing = self.sharing;
+        let ticks = sharing.ticks();
+        let duties = sharing.duty_count();
+        let lists = &*self.lists;
+        let mut wanting = 0;
+        for i in 0..duties {
+            if free <= wanting {
+                return i as u32;
+            }
+            let need = Amount {
+                whole: lists.whole[i],
+                part: lists.part[i],
+            };
+            wanting += u32::from(wants_more(ticks, need));
+        }
+        duties as u32
+    }
+
+    // The duties' turns in the next block, by its cut: what each duty gets goes to `units`, and the needs move on. The answer is whether some
+    // duty would get -1 units.
+    #[inline(always)]
+    pub fn share_by_cut(&mut self, cut: u32, units: &mut [u32]) -> bool
+        requires block_most { self.old.block < u32.MAX }
+        requires room { duty_count self.old.sharing ≤ length units.old }
+        requires cut_value { cut ≡ cut_at self.old.sharing self.old.block }
+        ensures next { self.new ≡ pace self.old.sharing (self.old.block + 1) }
+        ensures lacking { result ≡ lack_at self.old.sharing self.old.block }
+        ensures units_after { units.new ≡ over (allotments self.old.sharing self.old.block) units.old }
+    {
+        let sharing = self.sharing;
+        let ticks = sharing.ticks();
+        let lists = &mut *self.lists;
+        let mut total = 0;
+        let mut lacking = false;
+        for i in 0..sharing.duty_count() {
+            let share = Amount {
+                whole: lists.rate[i],
+                part: lists.rest[i],
+            };
+            let need = Amount {
+                whole: lists.whole[i],
+                part: lists.part[i],
+            };
+            let chosen = is_chosen(ticks, need, i as u32, cut);
+            let turn = take_turn(lists.periods[i], share, need, chosen);
+            units[i] = turn.units;
+            lists.whole[i] = turn.need.whole;
+            lists.part[i] = turn.need.part;
+            total += turn.need.whole;
+            lacking |= turn.lacking;
+        }
+        self.total = total;
+        self.block += 1;
+        lacking
+    }
+
+    // The next block: its free units, its cut, and the duties' turns. The answer is the cut; none where the block comes short.
+    #[inline(always)]
+    pub fn share_block(&mut self, units: &mut [u32]) -> Option<u32>
+        requires block_most { self.old.block < u32.MAX }
+        requires room { duty_count self.old.sharing ≤ length units.old }
+        ensures { Shared self.old units.old result self.new units.new }
+    {
+        let sharing = self.sharing;
+        let duties = sharing.duty_count() as u32;
+        let free = room_in_block(sharing.ticks(), sharing.engines(), duties, self.total)?;
+        let cut = self.find_cut(free);
+        if self.share_by_cut(cut, units) {
+            return None;
+        }
+        Some(cut)
     }
 }

@@ -1,93 +1,177 @@
--- The blocks up to the common multiple of two lists' periods. The block length divides every period, so it divides their multiple, and more
--- than so many blocks are more than so many times T ticks.
+-- The common multiple of the duties' periods, period after period, and the ticks that the duties ask for up to there. What the first i
+-- periods have for their multiple, with those that are left, has the multiple of them all; so it divides that one, and once it is too much
+-- that one is.
 -- Assumes nothing.
-use Prim.Native.Nat.{ℕ, ◌*◌, ◌/◌, ◌≤◌, ◌<◌, ◌∣◌}
-use mathlib.Core.Path.{◌≡◌, sym, ap, ◌∙◌}
+use Prim.Native.Nat.{ℕ, ◌+◌, ◌-◌, ◌*◌, ◌/◌, ◌^◌, ◌≤◌, ◌<◌, ◌∣◌}
+use mathlib.Core.Path.{◌≡◌, refl, sym, ap, ◌∙◌}
 use mathlib.Core.Bool.{Bool, true, false}
 use mathlib.Core.List.{List}
-use native.Mathlib.Nat.{dvd_trans, div-mul_cancel, mul-lt-mul_of_pos_right, lt_of_mul-lt-mul_right}
+use native.Mathlib.Nat.{le_of_dvd, pos_of_dvd_of_pos, mul-lt-mul_of_pos_right, lt_of_mul-lt-mul_right}
 use native.Mathlib.Omega.{arith}
 use lib.Dec.{ltb}
-use lib.ListN.{length}
-use borrow.Author.Tests.{ltb-true, lt-ltb}
-use Rattle.laws.specs.Choice.{pick}
-use Rattle.laws.specs.Divisor.{lcm_of}
+use borrow.Author.Tests.{ltb-true, ltb-false, lt-ltb, le-ltb}
+use lib.ListN.{length, drop, length-map, get_or-map}
+use Rattle.laws.specs.Divisor.{lcm, lcm_of}
+use Rattle.laws.specs.Sum.{sum_to}
 use Rattle.laws.proofs.Cases.{by_cases, both_ways}
-use Rattle.laws.proofs.Multiple.{lcm_of-divided, lcm_of_positive}
+use Rattle.laws.proofs.Multiple.{lcm_left, lcm-start, lcm_further, lcm-finished}
+use Rattle.laws.proofs.Sum.{sum_none, sum_more}
 use Rattle.paper.specs.declared.Duty.{Duty}
-use Rattle.paper.specs.Duties.{asked_in}
-use Rattle.paper.specs.Outcome.{refused, answer}
-use Rattle.paper.specs.Wanted.{duties_of}
-use Rattle.paper.specs.Sa2.{Sharing, sharing}
+use Rattle.paper.specs.Duties.{duty, duty_at, periods_of, asks, asked_in}
 use Rattle.paper.specs.Limits.{most_share_blocks}
-use Rattle.paper.specs.Shares.{common, blocks, overloaded, sharable}
-use Rattle.plan_laws.proofs.Planned.{periods_back, duty_is}
-use Rattle.duty_lists.specs.Sliceable.{Sliceable}
-use Rattle.share_common.specs.Common.{Positive, Divided, blocks_of}
+use Rattle.paper.specs.Outcome.{refused, answer}
+use Rattle.paper.specs.Sa2.{Sharing, sharing}
+use Rattle.paper.specs.Shares.{common, blocks, overloaded, sharable, shared}
+use Rattle.paper.specs.Wanted.{Wanted, duty_set, taken}
+use Rattle.paper.specs.Words.{block_length_of}
+use Rattle.paper.proofs.Passed.{Ranges}
+use Rattle.plan_laws.proofs.Periods.{multiple_some}
+use Rattle.plan_laws.proofs.TakenWhen.{taken_told}
+use Rattle.plan_laws.proofs.Planned.{length_duties}
+use Rattle.plan_laws.proofs.Sa1Table.{ticks_within}
+use Rattle.share_laws.proofs.Blocks.{blocks_whole, blocks_some, taken_some, taken_in_blocks}
+use Rattle.share_common.specs.Common.{Shareable, Counted}
 
--- more than so many blocks are more than their ticks, where the blocks fill the ticks
-blocks_ticks : (n t l : ℕ) → 0 < t → t ∣ l → ltb n (l / t) ≡ ltb (n * t) l
-blocks_ticks n t l pos d =
-    let whole = div-mul_cancel t d in
-    both_ways (ltb n (l / t)) (ltb (n * t) l)
-    (λ p. lt-ltb (n * t) l (rw whole at (mul-lt-mul_of_pos_right (ltb-true n (l / t) p) pos)))
-    (λ p. lt-ltb n (l / t) (lt_of_mul-lt-mul_right t (rw (← whole) at (ltb-true (n * t) l p))))
+-- ---- the common multiple
 
-module _ (t m : ℕ) (ss ps : List ℕ) (fit : Sliceable t ss ps) where
-  -- whose blocks are counted
-  abbrev s : Sharing
-  s = sharing t m (duties_of ss ps)
+-- m is what i periods have come to
+pub record Gone (t : ℕ) (ds : List Duty) (i m : ℕ) : Type 0 where
+  pub some : 0 < m
+  pub few : m ≤ most_share_blocks * t
+  pub left : lcm m (lcm_of (drop i (periods_of ds))) ≡ lcm_of (periods_of ds)
 
-  pub positive : Positive ps
-  positive i l =
-      let e = ap (λ (x : Duty). x.period) (duty_is ss ps i (omega (arith, fit.paired.same))) in
-      omega (arith, e, (fit.ranged i (omega (arith, fit.paired.same))).period_least)
+pub gone_none : {t : ℕ} (ds : List Duty) → 1 ≤ t → Gone t ds 0 1
+gone_none ds h = record { some = omega arith; few = omega arith; left = lcm-start (lcm_of (periods_of ds)) }
 
-  common_is : common s ≡ lcm_of ps
+module _ {t i m : ℕ} {ds : List Duty} (r : Ranges ds) (g : Gone t ds i m) where
+  module _ (h : i < length ds) where
+    -- with one period more it divides the common multiple still
+    next : lcm (lcm m (duty_at ds i).period) (lcm_of (drop (i + 1) (periods_of ds))) ≡ lcm_of (periods_of ds)
+    next =
+        let h' : i < length (periods_of ds) = rw (length-map ds (λ x. x.period)) h in
+        let here = get_or-map (λ (x : Duty). x.period) ds i (duty 0 0) in
+        rw here at (lcm_further m i (periods_of ds) h') ∙ g.left
+
+    divides : lcm m (duty_at ds i).period ∣ lcm_of (periods_of ds)
+    divides = rw next at (lcm_left (lcm m (duty_at ds i).period) (lcm_of (drop (i + 1) (periods_of ds))))
+
+    pub gone_within : lcm m (duty_at ds i).period ≤ lcm_of (periods_of ds)
+    gone_within = le_of_dvd (multiple_some ds r) divides
+
+    pub gone_more : (n : ℕ) → n ≡ lcm m (duty_at ds i).period → n ≤ most_share_blocks * t → Gone t ds (i + 1) n
+    gone_more n e l = record { some = rw e (pos_of_dvd_of_pos divides (multiple_some ds r)); few = l; left = rw e next }
+
+  pub gone_end : length ds ≤ i → m ≡ lcm_of (periods_of ds)
+  gone_end h = sym (lcm-finished m i (periods_of ds) (rw (length-map ds (λ x. x.period)) h)) ∙ g.left
+
+-- ---- what the duties ask for
+
+-- i duties ask for so much; none asks for more than the ticks
+pub record Asking (ds : List Duty) (ticks i asked : ℕ) : Type 0 where
+  pub sum : asked ≡ sum_to i (λ k. asks ticks (duty_at ds k))
+  pub most : asked ≤ (2 ^ 32 - 1) * i
+
+pub asking_none : (ds : List Duty) (ticks : ℕ) → Asking ds ticks 0 0
+asking_none ds ticks = record { sum = sym (sum_none (λ k. asks ticks (duty_at ds k))); most = omega arith }
+
+pub asking_more :
+    {ds : List Duty} {ticks i asked : ℕ} (x : Duty) (n : ℕ) → Asking ds ticks i asked → x ≡ duty_at ds i → n ≡ asks ticks x → n ≤ 2 ^ 32 - 1
+    → Asking ds ticks (i + 1) (asked + n)
+asking_more {ds} {ticks} {i} x n a e f l =
+    let here : n ≡ asks ticks (duty_at ds i) = f ∙ ap (asks ticks) e in
+    record { sum = omega (arith, a.sum, here, sum_more i (λ k. asks ticks (duty_at ds k))); most = omega (arith, a.most) }
+
+pub asking_end : {ds : List Duty} {ticks i asked : ℕ} → Asking ds ticks i asked → i ≡ length ds → asked ≡ asked_in ticks ds
+asking_end {ds} {ticks} a e = a.sum ∙ ap (λ (k : ℕ). sum_to k (λ j. asks ticks (duty_at ds j))) e
+
+-- ---- 22 and 7
+
+module _ (s : Sharing) (k : Shareable s) where
+  common_is : common s ≡ lcm_of (periods_of s.duties)
   unfolding common
-  common_is = ap lcm_of (periods_back ss ps fit.paired.same)
+  common_is = refl
 
-  blocks_are : blocks s ≡ lcm_of ps / t
-  unfolding blocks
-  blocks_are = rw common_is
+  -- more than so many blocks are more than their ticks
+  many_is : ltb most_share_blocks (blocks s) ≡ ltb (most_share_blocks * s.ticks) (lcm_of (periods_of s.duties))
+  many_is =
+      let t = s.ticks in
+      let n = blocks s in
+      let m = lcm_of (periods_of s.duties) in
+      let whole : n * t ≡ m = blocks_whole s k.in_blocks k.some ∙ common_is in
+      both_ways (ltb most_share_blocks n) (ltb (most_share_blocks * t) m)
+      (λ p.
+      let more = mul-lt-mul_of_pos_right (ltb-true most_share_blocks n p) k.in_blocks.ticks_some in
+      lt-ltb (most_share_blocks * t) m (rw whole at more))
+      (λ p.
+      let more : most_share_blocks * t < n * t = rw whole (ltb-true (most_share_blocks * t) m p) in
+      lt-ltb most_share_blocks n (lt_of_mul-lt-mul_right t more))
 
-  -- 22 and 7 in their order, by the common multiple
-  sharable_by :
-      sharable s
-      ≡ pick (ltb most_share_blocks (blocks s)) (refused 22 0)
-      (pick (ltb (m * lcm_of ps) (asked_in (lcm_of ps) (duties_of ss ps))) (refused 7 0) (answer s))
-  unfolding sharable overloaded
-  sharable_by = rw common_is
+  -- 22
+  many : (lcm_of (periods_of s.duties) ≤ most_share_blocks * s.ticks → ⊥) → sharable s ≡ refused 22 0
+  unfolding sharable
+  many h = by_cases (ltb most_share_blocks (blocks s)) (λ p. rw p) (λ p. absurd (h (ltb-false _ _ (sym many_is ∙ p))))
 
-  module _ (divided : Divided t ps) (some : 1 ≤ length ps) where
-    too_many_is : ltb most_share_blocks (blocks s) ≡ ltb (most_share_blocks * t) (lcm_of ps)
-    too_many_is =
-        let divides = dvd_trans t (divided 0 some) (lcm_of-divided ps 0 some) in
-        rw blocks_are (blocks_ticks most_share_blocks t (lcm_of ps) fit.ticks_least divides)
+  module _ (n : ℕ) (e : n ≡ lcm_of (periods_of s.duties)) (h : lcm_of (periods_of s.duties) ≤ most_share_blocks * s.ticks) where
+    few : ltb most_share_blocks (blocks s) ≡ false
+    few = many_is ∙ le-ltb (most_share_blocks * s.ticks) (lcm_of (periods_of s.duties)) h
 
-    module _ (r : ℕ) (told : r ≡ pick (ltb (most_share_blocks * t) (lcm_of ps)) 0 (lcm_of ps)) where
-      -- 22
-      pub too_many : r ≡ 0 → blocks_of s ≡ refused 22 0
-      too_many z =
-          by_cases (ltb (most_share_blocks * t) (lcm_of ps))
-          (λ p. rw (sharable_by, too_many_is ∙ p))
-          (λ p. absurd (omega (arith, lcm_of_positive ps positive, rw p at told)))
+    -- the blocks
+    pub counted : Counted s (n / s.ticks)
+    unfolding blocks common
+    counted =
+        let here : n / s.ticks ≡ blocks s = rw e in
+        record {
+          shareable = k;
+          blocks_are = here;
+          blocks_some = rw here (blocks_some s k.in_blocks k.some);
+          blocks_few = rw here (ltb-false most_share_blocks (blocks s) few);
+        }
 
-      -- else it is the common multiple
-      few : 0 < r → (ltb most_share_blocks (blocks s) ≡ false) × (r ≡ lcm_of ps)
-      few h =
-          by_cases (ltb (most_share_blocks * t) (lcm_of ps))
-          (λ p. absurd (omega (arith, rw p at told)))
-          (λ p. (too_many_is ∙ p, rw p at told))
+    module _ (over : Bool) (told : over ≡ ltb (s.engines * n) (asked_in n s.duties)) where
+      overloaded_is : overloaded s ≡ over
+      unfolding overloaded common
+      overloaded_is = sym (told ∙ ap (λ (l : ℕ). ltb (s.engines * l) (asked_in l s.duties)) e)
 
-      module _ (h : 0 < r) (over : Bool) (loaded : over ≡ ltb (m * r) (asked_in r (duties_of ss ps))) where
-        over_is : ltb (m * lcm_of ps) (asked_in (lcm_of ps) (duties_of ss ps)) ≡ over
-        over_is = sym (loaded ∙ ap (λ (l : ℕ). ltb (m * l) (asked_in l (duties_of ss ps))) (few h).1)
+      -- 7
+      much : over ≡ true → sharable s ≡ refused 7 0
+      unfolding sharable
+      much p = rw (few, overloaded_is, p)
 
-        -- 7
-        pub too_much : over ≡ true → blocks_of s ≡ refused 7 0
-        too_much p = rw (sharable_by, (few h).0, over_is, p)
+      fits : over ≡ false → sharable s ≡ answer s
+      unfolding sharable
+      fits p = rw (few, overloaded_is, p)
 
-        -- else the blocks
-        pub counted : over ≡ false → blocks_of s ≡ answer (r / t)
-        counted p = rw (sharable_by, (few h).0, over_is, p, (few h).1) (ap answer blocks_are)
+-- ---- duties that were taken
+
+module _ (x : Wanted) (ds : List Duty) (t : ℕ) (e : answer ds ≡ taken x) (f : t ≡ block_length_of ds) where
+  abbrev s : Sharing
+  s = sharing t x.engines ds
+
+  -- in blocks of their greatest length they are shareable
+  pub taken_shareable : Shareable s
+  taken_shareable =
+      let z = taken_told x ds (sym e) in
+      let blocks = taken_in_blocks x z.0 in
+      let n = length_duties x.services x.periods in
+      rw (f, z.1)
+      record {
+        in_blocks = blocks;
+        ticks_most = ticks_within (block_length_of (duty_set x)) (duty_set x) (taken_some x z.0) z.0.ranges blocks.ticks_divides;
+        engines_most = z.0.counts.engines.1;
+        some = taken_some x z.0;
+        few = omega (arith, n, z.0.counts.duties);
+      }
+
+  shared_is : shared x ≡ sharable s
+  shared_is = rw (← e, f)
+
+  pub too_many : (lcm_of (periods_of ds) ≤ most_share_blocks * t → ⊥) → shared x ≡ refused 22 0
+  too_many h = shared_is ∙ many s taken_shareable h
+
+  module _ (n : ℕ) (c : n ≡ lcm_of (periods_of ds)) (h : lcm_of (periods_of ds) ≤ most_share_blocks * t)
+      (over : Bool) (told : over ≡ ltb (x.engines * n) (asked_in n ds)) where
+    pub too_much : over ≡ true → shared x ≡ refused 7 0
+    too_much p = shared_is ∙ much s taken_shareable n c h over told p
+
+    pub shared_out : over ≡ false → shared x ≡ answer s
+    shared_out p = shared_is ∙ fits s taken_shareable n c h over told p

@@ -1,24 +1,21 @@
--- The common multiple on the way: what is known of the periods, and what the blocks come to.
-use Rattle.std.specs.Prelude.{ℕ, ◌<◌, List, length, get_or}
-use Rattle.std.specs.Int.{◌∣◌}
-use Rattle.paper.specs.Outcome.{Outcome, answer, and_then, refused_as}
-use Rattle.paper.specs.Sa2.{Sharing}
-use Rattle.paper.specs.Shares.{blocks, sharable}
-use Rattle.share_common.specs.declared.BlockCount.{BlockCount}
-use Rattle.share_common.specs.declared.BlockCount.TheVariants.{Blocks, Refused}
+-- What is known of the duties whose blocks are shared out.
+use Rattle.std.specs.Prelude.{ℕ, ◌≤◌, ◌<◌, ◌≡◌}
+use Rattle.paper.specs.Limits.{most_engines, most_duties, most_ticks, most_share_blocks}
+use Rattle.paper.specs.Sa2.{Sharing, duty_count}
+use Rattle.paper.specs.Shares.{blocks}
+use Rattle.share_laws.proofs.Steps.{InBlocks}
 
--- no period is 0
-abbrev pub Positive : List ℕ → Type 0
-Positive ps = (i : ℕ) → i < length ps → 0 < get_or ps i 0
+-- duties that were taken, in blocks whose length divides their periods
+pub record Shareable (s : Sharing) : Type 0 where
+  pub in_blocks : InBlocks s
+  pub ticks_most : s.ticks ≤ most_ticks
+  pub engines_most : s.engines ≤ most_engines
+  pub some : 1 ≤ duty_count s
+  pub few : duty_count s ≤ most_duties
 
--- the block length divides every period
-abbrev pub Divided : ℕ → List ℕ → Type 0
-Divided t ps = (i : ℕ) → i < length ps → t ∣ get_or ps i 0
-
--- 22 or 7, else the blocks
-abbrev pub blocks_of : Sharing → Outcome ℕ
-blocks_of s = and_then (sharable s) (λ x. answer (blocks x))
-
-abbrev pub blocks_as : BlockCount → Outcome ℕ
-blocks_as (Blocks n) = answer n
-blocks_as (Refused x) = refused_as x
+-- and so many blocks
+pub record Counted (s : Sharing) (n : ℕ) : Type 0 where
+  pub shareable : Shareable s
+  pub blocks_are : n ≡ blocks s
+  pub blocks_some : 0 < n
+  pub blocks_few : n ≤ most_share_blocks

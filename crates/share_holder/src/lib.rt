@@ -13,14 +13,11 @@ pub fn held_at(units: &[u32], place: u32) -> Held
     ensures { result ≡ on_line units.now 0 0 place }
 {
     let mut left = place;
-    let mut i = 0;
-    while i < units.len() {
-        let n = units[i];
-        if left < n {
-            return Held::By(i as u32);
+    for (i, n) in units.iter().enumerate() {
+        if left < *n {
+            return Some(i as u32);
         }
-        left -= n;
-        i += 1;
+        left -= *n;
     }
-    Held::Idle
+    None
 }

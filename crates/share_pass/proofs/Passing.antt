@@ -2,98 +2,73 @@
 -- if it were laid over the list as it was lent: what the last block gave is all that is left of them.
 -- Assumes nothing.
 use Prim.Native.Nat.{ℕ, ◌+◌, ◌≤◌, ◌<◌}
-use mathlib.Core.Path.{◌≡◌, refl, sym, ◌∙◌}
+use mathlib.Core.Path.{◌≡◌, refl, sym, ap, ◌∙◌}
 use mathlib.Core.Bool.{true, false}
 use mathlib.Core.List.{List}
 use native.Mathlib.Omega.{arith}
-use lib.ListN.{length}
-use Rattle.laws.specs.Search.{first}
+use lib.ListN.{length, set}
+use Rattle.std.specs.Prelude.{Some}
 use Rattle.laws.specs.Lists.{over}
 use Rattle.laws.proofs.Cases.{lt_or_le}
-use Rattle.laws.proofs.Search.{Clear, first_is, first_none}
 use Rattle.laws.proofs.Turned.{over_again}
-use Rattle.paper.specs.Sa2.{Sharing, duty_count, allotments}
+use Rattle.paper.specs.declared.Refusal.TheVariants.{ShareBlock}
+use Rattle.paper.specs.Sa2.{duty_count, allotments}
 use Rattle.share_laws.proofs.OnLine.{allotments-length}
-use Rattle.share_block.specs.Paced.{Paced, short_at}
-use Rattle.share_pass.specs.Passing.{Passed}
+use Rattle.share_block.specs.Paced.{Pace, pace, short_at, Shared}
+use Rattle.share_pass.specs.Passing.{CutsKept, Passed, Stopped}
+use Rattle.share_pass.proofs.Keeping.{kept_none, kept_more, kept_to}
 
--- the blocks from `from` to before b are passed
-pub record Passing (s : Sharing) (from to : ℕ) (before : List ℕ) (b total : ℕ) (whole part units : List ℕ) : Type 0 where
-  pub least : from ≤ b
+-- the blocks from the next of p to before b are passed
+pub record Passing (p : Pace) (to : ℕ) (units cuts : List ℕ) (b : ℕ) (q : Pace) (units' cuts' : List ℕ) : Type 0 where
+  pub least : p.block ≤ b
   pub most : b ≤ to
-  pub clear : (k : ℕ) → from ≤ k → k < b → short_at s k ≡ false
-  pub paced : Paced s b whole part total
-  pub alike : (l : List ℕ) → length l ≡ duty_count s → over l units ≡ over l before
-  pub last : (k : ℕ) → k + 1 ≡ b → from ≤ k → units ≡ over (allotments s k) before
+  pub clear : (k : ℕ) → p.block ≤ k → k < b → short_at p.sharing k ≡ false
+  pub paced : q ≡ pace p.sharing b
+  pub alike : (l : List ℕ) → length l ≡ duty_count p.sharing → over l units' ≡ over l units
+  pub last : (k : ℕ) → k + 1 ≡ b → p.block ≤ k → units' ≡ over (allotments p.sharing k) units
+  pub kept : CutsKept p.sharing p.block b cuts cuts'
 
-pub passing_none :
-    (s : Sharing) (from to total : ℕ) (whole part units : List ℕ) → from ≤ to → Paced s from whole part total
-    → Passing s from to units from total whole part units
-passing_none s from to total whole part units h p =
+pub passing_none : (p : Pace) (to : ℕ) (units cuts : List ℕ) → p.block ≤ to → Passing p to units cuts p.block p units cuts
+passing_none p to units cuts h =
     record {
       least = omega arith;
       most = h;
       clear = λ k x y. absurd (omega arith);
-      paced = p;
+      paced = refl;
       alike = λ l e. refl;
       last = λ k x y. absurd (omega arith);
+      kept = kept_none p.sharing p.block cuts;
     }
 
-module _ {s : Sharing} {from to b total : ℕ} {before whole part units : List ℕ} where
+module _ {p : Pace} {to b : ℕ} {q : Pace} {units cuts units' cuts' : List ℕ} (g : Passing p to units cuts b q units' cuts') where
   -- one block more that does not come short
   pub passing_more :
-      (total' : ℕ) (whole' part' units' : List ℕ) → Passing s from to before b total whole part units → b < to → short_at s b ≡ false
-      → Paced s (b + 1) whole' part' total' → units' ≡ over (allotments s b) units
-      → Passing s from to before (b + 1) total' whole' part' units'
-  passing_more total' whole' part' units' g h f p e =
+      {cut : ℕ} {q' : Pace} {units'' : List ℕ} → Shared q units' (Some cut) q' units'' → b < to → b < length cuts'
+      → Passing p to units cuts (b + 1) q' units'' (set cuts' b cut)
+  passing_more {cut} {q'} {units''} t h l =
+      let s = p.sharing in
+      let good : short_at s b ≡ false = rw g.paced at t.0 in
+      let gives : units'' ≡ over (allotments s b) units' = rw g.paced at t.4 in
       record {
         least = omega (arith, g.least);
         most = omega arith;
-        clear = λ k x y. lt_or_le k b (g.clear k x) (λ z. let q : k ≡ b = omega arith in rw q f);
-        paced = p;
-        alike = λ l n. rw e (over_again l (allotments s b) units (n ∙ sym (allotments-length s b)) ∙ g.alike l n);
-        last = λ k x y. let q : k ≡ b = omega arith in rw q (e ∙ g.alike (allotments s b) (allotments-length s b));
+        clear = λ k x y. lt_or_le k b (g.clear k x) (λ z. let e : k ≡ b = omega arith in rw e good);
+        paced = rw g.paced at t.3;
+        alike = λ l n. rw gives (over_again l (allotments s b) units' (n ∙ sym (allotments-length s b)) ∙ g.alike l n);
+        last = λ k x y. let e : k ≡ b = omega arith in rw e (gives ∙ g.alike (allotments s b) (allotments-length s b));
+        kept = kept_more cut g.kept g.least l (rw g.paced at t.1);
       }
 
   -- the pass ends at a block that comes short, ..
-  pub passing_short :
-      (whole' part' units' : List ℕ) → Passing s from to before b total whole part units → b < to → short_at s b ≡ true
-      → Passed s from to before b total whole' part' units'
-  passing_short whole' part' units' g h f =
-      record {
-        least = g.least;
-        most = g.most;
-        clear = g.clear;
-        stopped = λ x. f;
-        paced = λ x. absurd (omega arith);
-        last = λ x. absurd (omega arith);
-      }
+  pub passing_stop : b < to → short_at q.sharing q.block ≡ true → Stopped p to (ShareBlock b)
+  passing_stop h f = record { block = b; told = refl; most = h; clear = g.clear; stopped = rw g.paced at f }
 
   -- .. or after the last one
-  pub passing_end : Passing s from to before b total whole part units → to ≤ b → Passed s from to before to total whole part units
-  passing_end g h =
-      let e : b ≡ to = omega (arith, g.most) in
+  pub passing_end : b ≡ to → Passed p to units cuts q units' cuts'
+  passing_end e =
       record {
-        least = omega (arith, g.least);
-        most = omega arith;
         clear = λ k x y. g.clear k x (omega arith);
-        stopped = λ x. absurd (omega arith);
-        paced = λ x. rw (← e) g.paced;
-        last = λ x k y z. g.last k (omega arith) z;
+        paced = g.paced ∙ ap (pace p.sharing) e;
+        last = λ k x y. g.last k (omega arith) y;
+        kept = kept_to g.kept e;
       }
-
--- ---- what a pass has told
-
-module _
-    {s : Sharing} {from to block total : ℕ} {before whole part units : List ℕ}
-    (p : Passed s from to before block total whole part units) where
-  -- no block up to where it stopped comes short, if none did before it began
-  pub passed_clear : Clear (short_at s) from → Clear (short_at s) block
-  passed_clear c k h = lt_or_le k from (c k) (λ l. p.clear k l h)
-
-  -- it stopped at the first that does, or at the end
-  pub passed_first : Clear (short_at s) from → block ≡ first (short_at s) to
-  passed_first c =
-      let none = passed_clear c in
-      lt_or_le block to (λ l. sym (first_is (short_at s) to block l none (p.stopped l)))
-      (λ l. let e : block ≡ to = omega (arith, p.most) in e ∙ sym (first_none (short_at s) to (rw e at none)))

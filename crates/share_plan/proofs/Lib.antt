@@ -1,2 +1,1 @@
 pub mod FromBlocks
-pub mod FromTests

@@ -3,49 +3,60 @@
 -- blocks.
 -- Assumes nothing.
 use Prim.Native.Nat.{ℕ, ◌+◌, ◌≤◌, ◌<◌}
-use mathlib.Core.Path.{◌≡◌, sym}
+use mathlib.Core.Path.{◌≡◌, ◌∙◌}
+use mathlib.Core.Bool.{true}
 use mathlib.Core.List.{List}
 use native.Mathlib.Omega.{arith}
-use Rattle.laws.proofs.Search.{Clear, first_is}
+use borrow.Author.Tests.{lt-ltb, le-ltb}
+use Rattle.std.specs.Prelude.{Result, Ok, Err, ⊤}
+use Rattle.laws.proofs.Cases.{lt_or_le}
+use Rattle.laws.proofs.Search.{Clear, first_is, first_none}
+use Rattle.paper.specs.declared.Refusal.{Refusal}
+use Rattle.paper.specs.Outcome.{refused, answer, refused_as}
 use Rattle.paper.specs.Sa2.{Sharing}
-use Rattle.share_block.specs.Paced.{Paced, short_at}
-use Rattle.share_pass.specs.Passing.{Passed, CutsKept}
-use Rattle.share_pass.proofs.Passing.{passed_clear, passed_first}
-use Rattle.share_pass.proofs.Keeping.{kept_to, kept_both}
-use Rattle.share_survey.specs.Looking.{Looked}
+use Rattle.paper.specs.Shares.{blocks, failing, steady}
+use Rattle.share_laws.proofs.Steps.{InBlocks}
+use Rattle.share_laws.proofs.ShortWhen.{failing_short}
+use Rattle.share_block.specs.Paced.{Pace, pace, short_at}
+use Rattle.share_pass.specs.Passing.{Passed, Stopped, Passes}
+use Rattle.share_pass.proofs.Keeping.{kept_both}
+use Rattle.share_survey.specs.Looking.{Looks}
 
--- before the first block there is none
-none_yet : (s : Sharing) → Clear (short_at s) 0
-none_yet s k h = absurd (omega arith)
+module _ {s : Sharing} (c : InBlocks s) where
+  -- the first block that comes short is the first that fails
+  bad : (b : ℕ) → b < blocks s → short_at s b ≡ true → Clear (short_at s) b → steady s ≡ refused 23 b
+  bad b l h k =
+      let e : failing s ≡ b = failing_short s c ∙ first_is (short_at s) (blocks s) b l k h in
+      rw (e, lt-ltb b (blocks s) l)
 
-module _ {s : Sharing} {blocks keep : ℕ} {before : List ℕ} where
-  -- the first pass stops
-  pub look_stopped :
-      {b total : ℕ} {whole part units cuts₀ cuts : List ℕ} → Passed s 0 (keep + 1) before b total whole part units
-      → CutsKept s 0 b cuts₀ cuts → b ≤ keep → keep < blocks → Looked s blocks keep before b units cuts
-  look_stopped {b} p q l h =
-      record {
-        found = sym (first_is (short_at s) blocks b (omega arith) (passed_clear p (none_yet s)) (p.stopped (omega arith)));
-        kept = λ e. absurd (omega arith);
-        cut = λ e. absurd (omega arith);
-      }
+  good : Clear (short_at s) (blocks s) → steady s ≡ answer s
+  good k =
+      let e : failing s ≡ blocks s = failing_short s c ∙ first_none (short_at s) (blocks s) k in
+      rw (e, le-ltb (blocks s) (blocks s) (omega arith))
 
-  -- the first pass ends, so what the last of its blocks gave is kept, and the second goes on
-  pub look_ended :
-      {a total total' b : ℕ} {whole part units spare whole' part' spare' cuts₀ cuts cuts' : List ℕ}
-      → Passed s 0 (keep + 1) before a total whole part units → CutsKept s 0 a cuts₀ cuts → keep < a
-      → Passed s (keep + 1) blocks spare b total' whole' part' spare' → CutsKept s (keep + 1) b cuts cuts'
-      → Looked s blocks keep before b units cuts'
-  look_ended {a} {total} {total'} {b} p k l q g =
-      let end : a ≡ keep + 1 = omega (arith, p.most) in
-      record {
-        found = passed_first q (rw end at (passed_clear p (none_yet s)));
-        kept = λ e. p.last end keep (omega arith) (omega arith);
-        cut = λ e. kept_both (kept_to k end) (kept_to g e);
-      }
+  module _ {p : Pace} (e : p ≡ pace s 0) where
+    -- the first pass stops
+    pub look_stopped : {to : ℕ} {why : Refusal} → Stopped p to why → to ≤ blocks s → steady s ≡ refused_as why
+    look_stopped t l =
+        let u = rw e at t in
+        rw u.told (bad u.block (omega (arith, u.most)) u.stopped (λ k h. u.clear k (omega arith) h))
 
--- and the needs stand before the next block
-pub look_further :
-    {s : Sharing} {keep a total : ℕ} {before whole part units : List ℕ} → Passed s 0 (keep + 1) before a total whole part units → keep < a
-    → Paced s (keep + 1) whole part total
-look_further {s} {keep} {a} p l = p.paced (omega (arith, p.most))
+    -- the first pass ends, so what the last of its blocks gave is kept, and the second goes on
+    pub look_ended :
+        {keep n : ℕ} {units cuts units' cuts' : List ℕ} {q : Pace} (spare spare' cuts'' : List ℕ) (q' : Pace) (r : Result ⊤ Refusal)
+        → Passed p (keep + 1) units cuts q units' cuts' → n ≡ blocks s → keep < n → Passes q n spare cuts' r q' spare' cuts''
+        → Looks s keep r units units' cuts''
+    look_ended {keep} {n} spare spare' cuts'' q' (Ok u) t m h g =
+        let first = rw e at t in
+        let second = rw (first.paced, m) at g in
+        record {
+          good = good (λ k l. lt_or_le k (keep + 1) (first.clear k (omega arith)) (λ z. second.clear k z l));
+          kept = first.last keep (omega arith) (omega arith);
+          cut = kept_both first.kept second.kept;
+        }
+    look_ended {keep} {n} spare spare' cuts'' q' (Err why) t m h g =
+        let first = rw e at t in
+        let second = rw (first.paced, m) at g in
+        rw second.told
+        (bad second.block second.most second.stopped
+        (λ k l. lt_or_le k (keep + 1) (first.clear k (omega arith)) (λ z. second.clear k z l)))

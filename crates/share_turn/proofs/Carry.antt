@@ -2,31 +2,23 @@
 -- one is carried to the whole units, and what is left is the next need's part. A duty that has not taken a unit in advance keeps the 1 by
 -- which its need is raised.
 -- Assumes nothing.
-use Prim.Native.Nat.{ℕ, zero, suc, ◌+◌, ◌-◌, ◌*◌, ◌/◌, ◌%◌, ◌≤◌, ◌<◌}
+use Prim.Native.Nat.{ℕ, ◌+◌, ◌-◌, ◌*◌, ◌/◌, ◌%◌, ◌≤◌, ◌<◌}
 use mathlib.Core.Path.{◌≡◌, refl, sym, ◌∙◌}
 use mathlib.Core.Bool.{Bool, true, false}
 use native.Mathlib.Nat.{mod-eq_of_lt}
 use native.Mathlib.Omega.{arith}
 use lib.Arith.{digits_div, digits_mod}
-use lib.Dec.{leb, ltb}
-use borrow.Author.Tests.{lt-ltb, le-leb, lt-leb}
+use lib.Dec.{leb}
+use borrow.Author.Tests.{le-leb, lt-leb}
+use Rattle.std.specs.Int.{from_bool}
 use Rattle.laws.specs.Choice.{pick, one_if}
 use Rattle.laws.proofs.Cases.{lt_or_le}
 use Rattle.share_turn.specs.Taking.{next_by}
 
--- one less, and no less than 0
-one_less : (n : ℕ) → n - one_if (ltb 0 n) ≡ n - 1
-one_less zero = refl
-one_less (suc n) = rw (lt-ltb 0 (suc n) (omega arith))
-
--- the units that a need of n whole ones, raised, comes to
-pub units_by : (n took got : ℕ) (c : Bool) → took ≡ one_if c → got ≡ one_if (ltb 0 (n + took)) → n + took - got ≡ n + one_if c - 1
-units_by n took got c p q = rw (q, p) (one_less (n + one_if c))
-
--- what is taken off is there
-pub one_there : (n : ℕ) → one_if (ltb 0 n) ≤ n
-one_there zero = omega arith
-one_there (suc n) = rw (lt-ltb 0 (suc n) (omega arith)) (omega arith)
+-- a test counts as 1 or 0
+pub counted : (b : Bool) → from_bool b ≡ one_if b
+counted true = refl
+counted false = refl
 
 -- a number of D-ths, by its whole units q and a part r below D
 whole_by : (d x q r : ℕ) → r < d → x ≡ q * d + r → x / d ≡ q

@@ -77,46 +77,23 @@ pub fn length_meant(wish: u32, greatest: u32) -> u32
     if wish == 0 { greatest } else { wish }
 }
 
-// T·C: it has 40 bits at the most.
-fn scaled(t: u32, service: u32) -> u64
-    requires { (t ≤ most_ticks) × (service ≤ most_ticks) }
-    ensures { (result ≡ t * service) × (result ≤ most_ticks * most_ticks) }
-{
-    u64::from(t) * u64::from(service)
-}
-
-// Whether a duty's slice T·C/D is whole.
-pub fn is_whole(t: u32, x: Duty) -> bool
-    requires { (t ≤ most_ticks) × (x.service ≤ most_ticks) × (0 < x.period) }
-    ensures { result ≡ whole t x }
-{
-    scaled(t, x.service) % u64::from(x.period) == 0
-}
-
-// A duty's share of a block, T·C/D: whole units, and the part of a unit, in D-ths.
+// A duty's share of a block, T·C/D: whole units, and the part of a unit, in D-ths. Its slice is whole where there is no such part.
 #[derive(Clone, Copy, Debug, PartialEq, Eq)]
 pub struct Share {
     pub units: u32,
     pub rest: u32,
 }
 
-// The whole units are at most T, since C is at most D.
+// The share of a duty. T·C has 40 bits at the most, and the whole units are at most T, since C is at most D.
 pub fn share_of(t: u32, x: Duty) -> Share
     requires { (t ≤ most_ticks) × (x.service ≤ most_ticks) × (x.service ≤ x.period) × (0 < x.period) }
-    ensures { (result.units ≡ slice t x) × (result.rest ≡ t * x.service % x.period) × (result.units ≤ t) }
+    ensures { (result.units ≡ slice t x) × (result.rest ≡ t * x.service % x.period) × (result.units ≤ t)
+        × (whole t x ≡ eqb result.rest 0) }
 {
-    let all = scaled(t, x.service);
+    let all = u64::from(t) * u64::from(x.service);
     let period = u64::from(x.period);
     // `as`, since it is proved that nothing is lost: `u32::try_from` would have an error that cannot come.
     let units = (all / period) as u32;
     let rest = (all % period) as u32;
     Share { units, rest }
-}
-
-// A duty's slice, where its share is whole.
-pub fn slice_of(t: u32, x: Duty) -> u32
-    requires { (t ≤ most_ticks) × (x.service ≤ most_ticks) × (x.service ≤ x.period) × (0 < x.period) }
-    ensures { (result ≡ slice t x) × (result ≤ t) }
-{
-    share_of(t, x).units
 }

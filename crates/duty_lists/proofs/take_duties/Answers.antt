@@ -16,8 +16,8 @@ use Rattle.plan_laws.proofs.TakenWhen.{
   counts_good,
   range_refused,
   ranges_taken,
-  taken_told,
 }
+use Rattle.duty_lists.proofs.AfterTests.{none_applies, listed}
 use Rattle.duty_lists.proofs.take_duties.Goals as goal
 use Rattle.duty_lists.proofs.take_duties.Goals.{Else-not-is_within, Else-not-is_within-2, Start}
 
@@ -57,10 +57,6 @@ past c =
     counts_good (asked-3 c) (sym c.is_within.ensures ∙ c.if-not-is_within.false) (search rules)
     (sym c.is_within-2.ensures ∙ c.if-not-is_within-2.false)
 
-pub bad_range-bad-requires : goal.bad_range-bad-requires
-bad_range-bad-requires c = let counts =
-    past (goal.at.bad_range-bad-requires c).Else-not-is_within-2 in record { same = counts.lengths; few = counts.duties.1 }
-
 pub returns-then-bad-duties : goal.returns-then-bad-duties
 returns-then-bad-duties c =
     let x = asked-3 (goal.at.returns-then-bad-duties c).Else-not-is_within-2 in
@@ -68,7 +64,7 @@ returns-then-bad-duties c =
     let many = length_duties x.services x.periods in
     let refuses =
     range_refused x (past (goal.at.returns-then-bad-duties c).Else-not-is_within-2) bad.result bad.ensures (omega (arith, many)) in
-    rw (refuses, duty_is x.services x.periods bad.result (search rules)) c.range_fault-why.ensures
+    rw (refuses, duty_is x.services x.periods bad.result (search rules)) c.range_fault.ensures
 
 pub returns : goal.returns
 returns c =
@@ -83,11 +79,5 @@ invariant_of-result c =
     let x = asked-3 (goal.at.invariant_of-result c).Else-not-is_within-2 in
     let counts = past (goal.at.invariant_of-result c).Else-not-is_within-2 in
     let many = length_duties x.services x.periods in
-    let told : taken x ≡ answer (duty_set x) = ranges_taken x counts c.bad_range-bad.result c.bad_range-bad.ensures (omega (arith, many)) in (
-      counts.lengths,
-      record {
-        some = rw many counts.duties.0;
-        few = rw many counts.duties.1;
-        ranged = (taken_told x (duty_set x) told).0.ranges;
-      },
-    )
+    let told : taken x ≡ answer (duty_set x) = ranges_taken x counts c.bad_range-bad.result c.bad_range-bad.ensures (omega (arith, many)) in
+    (counts.lengths, listed x (none_applies x told))
