@@ -3,7 +3,6 @@ use mathlib.Core.Path.{◌≡◌, sym, ap, ◌∙◌}
 use mathlib.Core.Bool.{true, false}
 use Prim.Native.Nat.{◌+◌}
 use borrow.Author.Rules.{rules}
-use lib.Seq.{length-take-le}
 use Rattle.laws.proofs.Writing.{lent-rest}
 use Rattle.paper.specs.Text.{input_read}
 use Rattle.line_read.specs.Line.{first_good}
@@ -26,15 +25,6 @@ returns-then-not-first_line_good c =
     let bad = sym c.first_line_good.ensures ∙ c.if-not-first_line_good.true in
     let first = input-line c.args.b.now c.find-end.result false (search rules) c.find-end.ensures.value bad in
     ap input_read (sym first)
-
-pub slice_bounds-engines_read-end : goal.slice_bounds-engines_read-end
-slice_bounds-engines_read-end c = sym (length-take-le _ _ (search rules))
-
-pub engines_read-engines-requires : goal.engines_read-engines-requires
-engines_read-engines-requires c = (parts (goal.at.engines_read-engines-requires c).Else-not-first_line_good).1
-
-pub slice_bounds-read_duties-count : goal.slice_bounds-read_duties-count
-slice_bounds-read_duties-count c = (parts (goal.at.slice_bounds-read_duties-count c).Else-not-first_line_good).0
 
 pub returns : goal.returns
 returns c =
