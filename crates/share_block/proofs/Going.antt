@@ -5,7 +5,7 @@
 -- Assumes nothing.
 use Prim.Native.Nat.{ℕ, ◌+◌, ◌-◌, ◌*◌, ◌/◌, ◌%◌, ◌≤◌, ◌<◌}
 use mathlib.Core.Path.{◌≡◌, refl, sym, ap, ◌∙◌}
-use mathlib.Core.Bool.{Bool, true, false, ◌&&◌, ◌||◌}
+use mathlib.Core.Bool.{Bool, true, false, not, ◌&&◌, ◌||◌}
 use mathlib.Core.List.{List}
 use native.Mathlib.Nat.{div-add-mod', div-le_of_le-mul, mod-lt, mul-le-mul_left}
 use native.Mathlib.Numerals.{add-one}
@@ -17,7 +17,9 @@ use Rattle.laws.specs.Choice.{pick, one_if}
 use Rattle.laws.specs.Search.{any}
 use Rattle.laws.specs.Sum.{sum_to}
 use Rattle.laws.specs.Lists.{tab, over}
-use Rattle.laws.proofs.Cases.{lt_or_le}
+use Rattle.std.specs.Prelude.{Option, None, Some, SomeIff, is_some}
+use Rattle.std.specs.Option.{unwrap_or}
+use Rattle.laws.proofs.Cases.{lt_or_le, not_both}
 use Rattle.laws.proofs.Sum.{sum_none, sum_more}
 use Rattle.laws.proofs.Turned.{Turned, turned_any, turned_here, turned_more, turned_over, any_none, any-more}
 use Rattle.paper.specs.Limits.{most_ticks, most_duties}
@@ -226,3 +228,18 @@ module _ {s : Sharing} {b total : ℕ} {l : Lists} (p : Paced s b total l) where
     pub lack_tells : (lacking : Bool) → lacking ≡ lack_at s b → total ≤ s.engines * s.ticks + n → short_at s b ≡ lacking
     unfolding short
     lack_tells lacking l h = rw (not_over h, l) (or_false (lack_at s b))
+
+    -- by what step 1 answers, which is none where the needs are too many: its free units, and whether the block comes short
+    pub free_or : (r : Option ℕ) → SomeIff r (total ≤ s.engines * s.ticks + n) (s.engines * s.ticks + n - total)
+        → unwrap_or r 0 ≡ free_at s b
+    free_or None h =
+        lt_or_le (s.engines * s.ticks + n) total (λ l. free_is 0 (omega arith)) (λ l. absurd (h l))
+    free_or (Some f) h = free_is f h.1
+
+    pub short_or :
+        (r : Option ℕ) (lacking none : Bool) → SomeIff r (total ≤ s.engines * s.ticks + n) (s.engines * s.ticks + n - total)
+        → lacking ≡ lack_at s b → is_some r ≡ not none → lacking || none ≡ short_at s b
+    short_or None lacking true h l i = or_true lacking ∙ sym (over_short h)
+    short_or None lacking false h l i = not_both i refl
+    short_or (Some f) lacking true h l i = not_both refl i
+    short_or (Some f) lacking false h l i = or_false lacking ∙ sym (lack_tells lacking l h.0)

@@ -1,12 +1,10 @@
 -- How duties go on block after block, and what stands in their lists on the way: their shares, and their needs before a block.
-use Rattle.std.specs.Prelude.{ℕ, ◌+◌, ◌/◌, ◌%◌, ◌<◌, ◌≤◌, ◌≡◌, Bool, true, false, Option, Some, None, List, length, get_or}
+use Rattle.std.specs.Prelude.{ℕ, ◌/◌, ◌%◌, ◌<◌, ◌≡◌, Bool, List, length, get_or}
 use Rattle.laws.specs.Search.{any}
 use Rattle.laws.specs.Sum.{sum_to}
-use Rattle.laws.specs.Lists.{over}
 use Rattle.paper.specs.Limits.{most_duties}
-use Rattle.paper.specs.Sa2.{Sharing, duty_count, duty_of, share_of, whole_of, part_of, free, needs_at, allotments}
+use Rattle.paper.specs.Sa2.{Sharing, duty_count, duty_of, share_of, whole_of, part_of, free, needs_at}
 use Rattle.share_laws.specs.Short.{lacks, short}
-use Rattle.share_laws.specs.Cut.{cut_at}
 use Rattle.share_common.specs.Common.{Shareable}
 use Rattle.share_block.specs.declared.Lists.{Lists}
 
@@ -46,10 +44,3 @@ lack_at s b = any (lacks s (needs_at s b)) (duty_count s)
 
 abbrev pub short_at : Sharing → ℕ → Bool
 short_at s b = short s (needs_at s b)
-
--- the next block: its cut, where it does not come short; then the paces are before the one after it, and what it gives is laid over a list
-abbrev pub Shared : Pace → List ℕ → Option ℕ → Pace → List ℕ → Type 0
-Shared p before None q after = short_at p.sharing p.block ≡ true
-Shared p before (Some cut) q after =
-    (short_at p.sharing p.block ≡ false) × (cut ≡ cut_at p.sharing p.block) × (cut ≤ most_duties)
-    × (q ≡ pace p.sharing (p.block + 1)) × (after ≡ over (allotments p.sharing p.block) before)

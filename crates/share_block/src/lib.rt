@@ -7,7 +7,7 @@ ghost use Rattle.paper.specs.Limits.{most_duties};
 ghost use Rattle.paper.specs.Sa2.{duty_count, allotments};
 ghost use Rattle.share_laws.specs.Cut.{cut_at};
 ghost use Rattle.share_common.specs.Common.{Shareable};
-ghost use Rattle.share_block.specs.Paced.{pace, free_at, lack_at, Shared};
+ghost use Rattle.share_block.specs.Paced.{pace, free_at, lack_at, short_at};
 
 use paper::limits::MOST_DUTIES;
 use share_common::Sharing;
@@ -43,6 +43,13 @@ impl Lists {
             part: [0; MOST_DUTIES],
         }
     }
+}
+
+// How a block came out: its cut, and whether it comes short. No Option of a cut: `share_block` promises both in each case (a).
+#[derive(Clone, Copy, Debug, PartialEq, Eq)]
+pub struct Shared {
+    pub cut: u32,
+    pub short: bool,
 }
 
 // How the duties go on: whose blocks are shared out, the block that is next, the sum of the needs' whole units before it, and what the lists
@@ -171,20 +178,24 @@ impl<'a> Paces<'a> {
         lacking
     }
 
-    // The next block: its free units, its cut, and the duties' turns. The answer is the cut; none where the block comes short.
+    // The next block: its free units, its cut, and the duties' turns.
     #[inline(always)]
-    pub fn share_block(&mut self, units: &mut [u32]) -> Option<u32>
+    pub fn share_block(&mut self, units: &mut [u32]) -> Shared
         requires block_most { self.old.block < u32.MAX }
         requires room { duty_count self.old.sharing ≤ length units.old }
-        ensures { Shared self.old units.old result self.new units.new }
+        ensures next { self.new ≡ pace self.old.sharing (self.old.block + 1) }
+        ensures short_value { result.short ≡ short_at self.old.sharing self.old.block }
+        ensures units_after { units.new ≡ over (allotments self.old.sharing self.old.block) units.old }
+        ensures cut_value { (result.cut ≡ cut_at self.old.sharing self.old.block) × (result.cut ≤ most_duties) }
     {
         let sharing = self.sharing;
         let duties = sharing.duty_count() as u32;
-        let free = room_in_block(sharing.ticks(), sharing.engines(), duties, self.total)?;
-        let cut = self.find_cut(free);
-        if self.share_by_cut(cut, units) {
-            return None;
+        let room = room_in_block(sharing.ticks(), sharing.engines(), duties, self.total);
+        let cut = self.find_cut(room.unwrap_or(0));
+        let lacking = self.share_by_cut(cut, units);
+        Shared {
+            cut,
+            short: lacking | room.is_none(),
         }
-        Some(cut)
     }
 }

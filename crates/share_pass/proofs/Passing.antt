@@ -7,13 +7,13 @@ use mathlib.Core.Bool.{false}
 use mathlib.Core.List.{List}
 use native.Mathlib.Omega.{arith}
 use lib.ListN.{length, set}
-use Rattle.std.specs.Prelude.{Some}
 use Rattle.laws.specs.Lists.{over}
 use Rattle.laws.proofs.Cases.{lt_or_le}
 use Rattle.laws.proofs.Turned.{over_again}
 use Rattle.paper.specs.Sa2.{duty_count, allotments}
 use Rattle.share_laws.proofs.OnLine.{allotments-length}
-use Rattle.share_block.specs.Paced.{Pace, pace, short_at, Shared}
+use Rattle.share_laws.specs.Cut.{cut_at}
+use Rattle.share_block.specs.Paced.{Pace, pace, short_at}
 use Rattle.share_pass.specs.Passing.{CutsKept}
 use Rattle.share_pass.proofs.Keeping.{kept_more}
 
@@ -30,18 +30,19 @@ pub record Passing (p : Pace) (to : ℕ) (units cuts : List ℕ) (b : ℕ) (q : 
 module _ {p : Pace} {to b : ℕ} {q : Pace} {units cuts units' cuts' : List ℕ} (g : Passing p to units cuts b q units' cuts') where
   -- one block more that does not come short
   pub passing_more :
-      {cut : ℕ} {q' : Pace} {units'' : List ℕ} → Shared q units' (Some cut) q' units'' → b < to → b < length cuts'
+      {cut : ℕ} {q' : Pace} {units'' : List ℕ} → short_at q.sharing q.block ≡ false → cut ≡ cut_at q.sharing q.block
+      → q' ≡ pace q.sharing (q.block + 1) → units'' ≡ over (allotments q.sharing q.block) units' → b < to → b < length cuts'
       → Passing p to units cuts (b + 1) q' units'' (set cuts' b cut)
-  passing_more {cut} {q'} {units''} t h l =
+  passing_more {cut} {q'} {units''} goes cut_is next gave h l =
       let s = p.sharing in
-      let good : short_at s b ≡ false = rw g.paced at t.0 in
-      let gives : units'' ≡ over (allotments s b) units' = rw g.paced at t.4 in
+      let good : short_at s b ≡ false = rw g.paced at goes in
+      let gives : units'' ≡ over (allotments s b) units' = rw g.paced at gave in
       record {
         least = omega (arith, g.least);
         most = omega arith;
         clear = λ k x y. lt_or_le k b (g.clear k x) (λ z. let e : k ≡ b = omega arith in rw e good);
-        paced = rw g.paced at t.3;
+        paced = rw g.paced at next;
         alike = λ l n. rw gives (over_again l (allotments s b) units' (n ∙ sym (allotments-length s b)) ∙ g.alike l n);
         last = λ k x y. let e : k ≡ b = omega arith in rw e (gives ∙ g.alike (allotments s b) (allotments-length s b));
-        kept = kept_more cut g.kept g.least l (rw g.paced at t.1);
+        kept = kept_more cut g.kept g.least l (rw g.paced at cut_is);
       }

@@ -24,10 +24,11 @@ pub fn pass_blocks(
     ensures { Passes paces.old to units.old cuts.old result paces.new units.new cuts.new }
 {
     for b in paces.block()..to {
-        let Some(cut) = paces.share_block(units) else {
+        let shared = paces.share_block(units);
+        if shared.short {
             return Err(Refusal::ShareBlock(b as usize));
-        };
-        cuts[b as usize] = cut as u8;
+        }
+        cuts[b as usize] = shared.cut as u8;
     }
     Ok(())
 }
