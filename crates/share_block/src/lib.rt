@@ -45,8 +45,8 @@ impl Lists {
     }
 }
 
-// How the duties go on: whose blocks are shared out, the block that is next, the sum of the needs' whole units before it, and what the lists
-// hold. The lists are lent, so that nothing is copied.
+// How the duties go on: whose blocks are shared out, the block that is next, the sum of the needs' whole units before it, and what the
+// lists hold. The lists are lent, so that nothing is copied.
 #[derive(Drop)]
 pub struct Paces<'a> {
     sharing: &'a Sharing<'a>,
@@ -130,8 +130,8 @@ impl<'a> Paces<'a> {
         duties as u32
     }
 
-    // The duties' turns in the next block, by its cut: what each duty gets goes to `units`, and the needs move on. The answer is whether some
-    // duty would get -1 units.
+    // The duties' turns in the next block, by its cut: what each duty gets goes to `units`, and the needs move on. The answer is whether
+    // some duty would get -1 units.
     pub fn share_by_cut(&mut self, cut: u32, units: &mut [u32]) -> bool
         requires block_most { self.old.block < u32.MAX }
         requires room { duty_count self.old.sharing ≤ length units.old }
@@ -167,8 +167,8 @@ impl<'a> Paces<'a> {
         lacking
     }
 
-    // The next block: its free units, its cut, and the duties' turns. The answer is the cut; none where the block comes short. It is compiled
-    // where it is called, so that a pass whose units nobody reads does not write them.
+    // The next block: its free units, its cut, and the duties' turns. The answer is the cut; none where the block comes short. It is
+    // compiled where it is called, so that a pass whose units nobody reads does not write them.
     #[inline(always)]
     pub fn share_block(&mut self, units: &mut [u32]) -> Option<u32>
         requires block_most { self.old.block < u32.MAX }
