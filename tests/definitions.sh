@@ -1,7 +1,7 @@
 #!/usr/bin/env bash
 # What it is that a schedule meets duties (crates/paper/specs/Capacity.antt) is said without tables, blocks, rows or slices, so that refusal
 # 7 can be read as "impossible" by whoever does not know how plans are made. Looks at every file of definitions that its `use` lines reach,
-# and at the declared types that these name: duties, engines and what an engine has at a tick.
+# and at the declared types that these name: duties and engines.
 set -u
 cd "$(dirname "$0")/.." || exit 2
 specs=crates/paper/specs
@@ -24,7 +24,7 @@ for ((k = 0; k < ${#files[@]}; k++)); do
 done
 
 reached=$(printf '%s\n' "${files[@]}" "${types[@]}" | LC_ALL=C sort | tr '\n' ' ')
-expected='Capacity Duties Schedule declared.Duty declared.Engine declared.Held '
+expected='Capacity Duties Schedule declared.Duty declared.Engine '
 [ "$reached" = "$expected" ] || {
     printf 'what meeting duties means reaches\n%s\nand not\n%s\n' "$reached" "$expected"
     exit 1

@@ -23,7 +23,7 @@ use Rattle.paper.proofs.Passed.{From}
 use Rattle.table_laws.proofs.Accepted.{common_when}
 use Rattle.plan_laws.proofs.TakenWhen.{Taken}
 use Rattle.plan_laws.proofs.PlanWhen.{ticks_for, not_taken, not_common, plan_when, past_common}
-use Rattle.duty_lists.proofs.AfterTests.{listed, within_by, greatest_within}
+use Rattle.duty_lists.proofs.AfterTests.{listed, some_taken, within_by, greatest_within}
 use Rattle.builder.specs.BuildAt.{build_at}
 
 -- what the tests refuse is not built
@@ -44,7 +44,7 @@ module _ {wish : ℕ} {x : Wanted} {g t : ℕ} (k : Lengths wish x g t) where
   pub meant_some : 0 < t
   meant_some =
       by_cases (eqb wish 0)
-      (λ h. rw (k.meant, h, k.greatest) (greatest_within (listed x k.takes)).0)
+      (λ h. rw (k.meant, h, k.greatest) (greatest_within (some_taken x k.takes) (listed x k.takes)).0)
       (λ h. rw (k.meant, h) (omega (arith, eqb-false wish 0 h)))
 
   -- it divides every period exactly where it leaves nothing of the greatest
@@ -59,7 +59,7 @@ module _ {wish : ℕ} {x : Wanted} {g t : ℕ} (k : Lengths wish x g t) where
 
   -- past 24 it is in range, and what is taken is built for it
   pub within_past : g % t ≡ 0 → From 1 most_ticks t
-  within_past h = within_by (listed x k.takes) t (common_if h)
+  within_past h = within_by (some_taken x k.takes) (listed x k.takes) t (common_if h)
 
   pub past_24 : (room : ℕ) → g % t ≡ 0 → build wish x room ≡ build_at t x.engines (duty_set x) room
   past_24 room h =

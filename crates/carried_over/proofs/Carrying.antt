@@ -2,35 +2,30 @@
 -- last carries it on where the chain closes. The edges of a table tell what holds a row's first and last unit, so what they carry the table
 -- does.
 -- Assumes nothing.
-use Prim.Native.Nat.{ℕ, zero, suc, ◌+◌, ◌*◌, ◌-◌, ◌≤◌, ◌<◌}
-use mathlib.Core.Path.{◌≡◌, sym, ap, ◌∙◌}
+use Prim.Native.Nat.{ℕ, zero, suc, ◌+◌, ◌-◌, ◌≤◌, ◌<◌}
+use mathlib.Core.Path.{◌≡◌, refl, sym, ap, ◌∙◌}
 use mathlib.Core.Bool.{true}
 use mathlib.Core.List.{List}
 use native.Mathlib.Numerals.{add-one}
 use native.Mathlib.Omega.{arith}
-use lib.Dec.{eqb}
-use Rattle.laws.specs.Choice.{pick, one_if}
+use Rattle.laws.specs.Choice.{one_if}
 use Rattle.laws.proofs.Sum.{sum_none, sum_more, sum_ext}
-use Rattle.paper.specs.declared.Reading.{Reading}
 use Rattle.paper.specs.declared.Chain.{Chain}
 use Rattle.paper.specs.Limits.{small, most_engines}
 use Rattle.paper.specs.Duties.{same}
 use Rattle.paper.specs.Words.{row, Table, held_in}
 use Rattle.paper.specs.Rotation.{next_of, link}
-use Rattle.paper.specs.Walk.{loads}
-use Rattle.walk_laws.proofs.Page.{next_linked, next_last, carried, InChain, chain_first, chain_other, Onward, carried_is, carried_few}
-use Rattle.walk_laws.proofs.Page.{loads_are}
-use Rattle.record_read.specs.Formed.{table_of}
-use Rattle.record_read.proofs.Table.{table_runs, table_engines, table_ranged}
+use Rattle.paper.specs.Statements.{Ranged}
+use Rattle.walk_laws.proofs.Page.{next_linked, next_last, carried, InChain, chain_first, chain_other, Onward, carried_is}
 use Rattle.table_tally.specs.Tally.{edges_of}
-use Rattle.table_tally.specs.Ready.{Ready}
-use Rattle.table_tally.proofs.Linked.{same_code_lem, Narrow, first_tells, last_tells, link_code, formed_narrow}
-use Rattle.row_edges.specs.Links.{first_edge, last_edge, link_of, same_code}
+use Rattle.table_tally.proofs.Linked.{first_tells, last_tells, edges_link}
+use Rattle.row_edges.specs.declared.RowEdges.{RowEdges}
+use Rattle.row_edges.specs.Links.{first_edge, last_edge, link_of}
 use Rattle.row_edges.proofs.Linking.{link_at}
 use Rattle.carried_over.specs.Carried.{carries_of, carried_of, carried_in}
 
 -- the count, row by row
-module _ (edges : List ℕ) where
+module _ (edges : List RowEdges) where
   pub carried_none : carried_of edges 0 ≡ 0
   unfolding carried_of
   carried_none = sum_none (λ r. one_if (carries_of edges r))
@@ -61,7 +56,7 @@ module _ (edges : List ℕ) where
       let last = i.ends r (omega arith) in
       let home = chain_first (link_of edges) (chain_other (link_of edges) r i (omega arith) (omega arith)) in
       let next : next_of (link_of edges) r ≡ x.first.0 = next_last (link_of edges) r last ∙ home in
-      let closing = ap (λ n. one_if (same_code (last_edge edges r) (first_edge edges n))) next in
+      let closing = ap (λ n. one_if (same (last_edge edges r) (first_edge edges n))) next in
       let y : x.first.0 + x.length ≡ r + 1 = omega arith in
       let z : x.first.0 + (x.length - 1) ≡ r = omega arith in
       let along = rw z at (carried_along i few (x.length - 1) (omega arith)) in
@@ -74,32 +69,16 @@ module _ (edges : List ℕ) where
       ap (λ n. carried_of edges (n + x.length)) (sym on.same) ∙ carried_chain on.own few
       ∙ ap (λ n. carried_of edges n + carried_in edges x) on.same
 
-module _ (t : Table) (narrow : Narrow t.runs) where
+module _ (t : Table) (G : Ranged small t) where
   -- of a table, row by row: what the edges tell is what its rows hold
   carries_code : (r : ℕ)
       → carries_of (edges_of t) r ≡ same (held_in t.runs (row r) (t.ticks - 1)) (held_in t.runs (row (next_of (link t) r)) 0)
   carries_code r =
       let next : ℕ = next_of (link t) r in
-      ap (λ c. same_code (last_edge (edges_of t) r) (first_edge (edges_of t) (next_of c r))) (link_code t narrow)
-      ∙ rw (last_tells t narrow r, first_tells t narrow next)
-      (same_code_lem (held_in t.runs (row r) (t.ticks - 1)) (held_in t.runs (row next) 0))
+      ap (λ c. same (last_edge (edges_of t) r) (first_edge (edges_of t) (next_of c r))) (edges_link t G)
+      ∙ rw (last_tells t G r, first_tells t G next) refl
 
-  carried_code : carried_of (edges_of t) t.engines ≡ carried t
+  -- so the edges of a table carry what it does
+  pub carried_code : carried_of (edges_of t) t.engines ≡ carried t
   unfolding carried_of
   carried_code = sum_ext t.engines _ _ (λ r h. ap one_if (carries_code r)) ∙ sym (carried_is t)
-
--- so the edges of a judged table carry what it does, no more than it has runs, ..
-module _ {b : List ℕ} {rd : Reading} {edges : List ℕ} (R : Ready b rd edges) where
-  pub carried_read : carried_of edges rd.engines ≡ carried (table_of b rd)
-  carried_read =
-      rw (R.edges_are, ← table_engines b rd R.formed) (carried_code (table_of b rd) (formed_narrow R.formed))
-
-  pub carried_most : carried_of edges rd.engines ≤ rd.runs
-  carried_most =
-      omega (arith, carried_read, table_runs b rd, carried_few small (table_of b rd) (table_ranged b rd R.formed) R.meets)
-
-  -- .. and the loads of n blocks are one for each run in the first, and in each later one as many but for what is carried
-  pub loads_read : (n : ℕ)
-      → loads (table_of b rd) n ≡ pick (eqb n 0) 0 (rd.runs + (n - 1) * (rd.runs - carried_of edges rd.engines))
-  loads_read n =
-      loads_are small (table_of b rd) (table_ranged b rd R.formed) R.meets n ∙ rw (table_runs b rd, carried_read)

@@ -1,19 +1,18 @@
 // What goes on over a boundary between blocks: the duties that an engine has at the end of a block and at the start of the next.
 #![tactic(auto)]
 
-ghost use Rattle.std.specs.Prelude.{◌≡◌, ◌+◌, ◌≤◌};
+ghost use Rattle.std.specs.Prelude.{◌≡◌, ◌+◌, ◌≤◌, length};
 ghost use Rattle.paper.specs.Limits.{most_engines};
-ghost use Rattle.paper.specs.Rotation.{first_of};
-ghost use Rattle.row_edges.specs.Links.{link_of};
-ghost use Rattle.carried_over.specs.Carried.{carried_of, closes_of, carried_in};
+ghost use Rattle.walk_laws.proofs.Page.{carried};
+ghost use Rattle.carried_over.specs.Carried.{closes_of, carried_in};
 
-use paper::limits::EDGES;
 use paper::{Chain, Row};
 use rotation::chain_of;
-use row_edges::{first_edge, last_edge, same_duty};
+use row_edges::{Edges, first_edge, last_edge, same_duty};
+use table_tally::Accepted;
 
 // Whether the duty at the end of a chain's last row goes on at the start of its first, to which that row's engine moves.
-fn closes(edges: &[u32; EDGES], chain: Chain) -> bool
+fn closes(edges: &Edges, chain: Chain) -> bool
     requires { (1 ≤ chain.length) × (chain.first.0 + chain.length ≤ most_engines + 1) }
     ensures { result ≡ closes_of edges.now chain }
 {
@@ -23,7 +22,7 @@ fn closes(edges: &[u32; EDGES], chain: Chain) -> bool
 
 // At how many rows of a chain a duty is carried over a boundary: at each that another is chained to, and at the last where the chain
 // closes.
-fn carried_in(edges: &[u32; EDGES], chain: Chain) -> u32
+fn carried_in(edges: &Edges, chain: Chain) -> u32
     requires { (1 ≤ chain.length) × (chain.first.0 + chain.length ≤ most_engines + 1) }
     ensures { (result ≡ carried_in edges.now chain) × (result ≤ chain.length) }
 {
@@ -33,13 +32,16 @@ fn carried_in(edges: &[u32; EDGES], chain: Chain) -> u32
     chain.length - 1
 }
 
-// At how many rows a duty is carried over a boundary: those are no loads in any block but the first. The last row's chain ends with it.
-pub fn carried(edges: &[u32; EDGES], engines: u32) -> u32
-    requires { (engines ≤ most_engines) × (first_of (link_of edges.now) engines ≡ engines) }
-    ensures { (result ≡ carried_of edges.now engines) × (result ≤ engines) }
+// At how many rows a duty of a judged table is carried over a boundary: those are no loads in any block but the first. The last row's chain
+// ends with it.
+pub fn carried(accepted: &Accepted) -> u32
+    ensures told { result ≡ carried accepted.now }
+    ensures few { result ≤ length accepted.now.runs }
 {
-    let mut count: u32 = 0;
-    let mut first: u32 = 0;
+    let edges = accepted.edges();
+    let engines = accepted.table().reading().engines;
+    let mut count = 0;
+    let mut first = 0;
     while first < engines {
         let chain = chain_of(edges, Row(first));
         count += carried_in(edges, chain);

@@ -10,22 +10,17 @@ use lib.ListN.{length, take, drop}
 use Rattle.laws.specs.Lists.{flat, over}
 use Rattle.laws.proofs.Lists.{flat_append, flat_step, flat_end}
 use Rattle.laws.proofs.Writing.{Wrote, written, grown, all_written, over_nothing}
-use Rattle.paper.specs.declared.Reading.{Reading}
 use Rattle.paper.specs.declared.Chain.{Chain}
-use Rattle.paper.specs.Limits.{chain_line_room}
+use Rattle.paper.specs.Limits.{small, most_engines, most_runs, chain_line_room, loads_line_room}
+use Rattle.paper.specs.Words.{Table}
+use Rattle.paper.specs.Statements.{Ranged, Meets}
 use Rattle.paper.specs.Outcome.{Puts}
 use Rattle.paper.specs.Rotation.{first_of, chains_below}
 use Rattle.paper.specs.Walk.{loads}
-use Rattle.paper.specs.Text.{print_line, chain_line, loads_word}
-use Rattle.walk_laws.proofs.Page.{first_zero, InChain, onward, chains_onward, chains_none}
-use Rattle.record_read.specs.Formed.{table_of}
-use Rattle.record_read.proofs.Table.{table_engines}
-use Rattle.row_edges.specs.Links.{link_of}
-use Rattle.table_tally.proofs.Linked.{ready_links}
-use Rattle.table_tally.specs.Ready.{Ready}
-use Rattle.carried_over.specs.Carried.{carried_of}
-use Rattle.carried_over.proofs.Carrying.{loads_read}
-use Rattle.chain_lines.specs.Parts.{lines_below, rotation_lines}
+use Rattle.paper.specs.Text.{print_line, chain_word, chain_line, loads_word, loads_line}
+use Rattle.walk_laws.proofs.Page.{first_zero, InChain, onward, chains_onward, chains_none, carried, loads_are}
+use Rattle.line_print.proofs.Line.{line_most}
+use Rattle.chain_lines.specs.Parts.{lines_below}
 
 pub record Chained (c : ℕ → Bool) (m : ℕ) (l xs : List ℕ) (at k : ℕ) : Type 0 where
   pub within : k ≤ m
@@ -79,14 +74,29 @@ chained_end c m {l} {xs} {at} {k} s h =
     let all : Wrote (lines_below c m m) l [] xs at = subst (λ j. Wrote (lines_below c m j) l [] xs at) z s.wrote in
     (all_written all, omega (arith, s.most))
 
--- what is printed of a judged table by its edges is what the definition says: its chains, and its loads, in block 0 one for each run, in a
--- later block those but for the carried
-pub rotation_is : {b : List ℕ} {rd : Reading} {edges : List ℕ} {kept : ℕ} → Ready b rd edges → kept ≡ carried_of edges rd.engines
-    → lines_below (link_of edges) rd.engines rd.engines ++ print_line loads_word (rd.runs ∷ (rd.runs - kept) ∷ [])
-    ≡ rotation_lines (table_of b rd)
-rotation_is {b} {rd} {edges} {kept} R e =
-    let t = table_of b rd in
-    let one : loads t 1 ≡ rd.runs = loads_read R 1 ∙ omega arith in
-    let two : loads t 2 ≡ rd.runs + (rd.runs - carried_of edges rd.engines) = loads_read R 2 ∙ omega arith in
-    let later : loads t 2 - loads t 1 ≡ rd.runs - kept = omega arith in
-    rw (later, one, ready_links R, table_engines b rd R.formed)
+-- a chain's line, by its numbers, and how long it is
+pub chain_is : (x : Chain) {first long : ℕ} → first ≡ x.first.0 → long ≡ x.length
+    → print_line chain_word (first ∷ long ∷ []) ≡ chain_line x
+chain_is x e f = rw (e, f) refl
+
+pub chain_fits : (x : Chain) → x.first.0 ≤ most_engines → x.length ≤ most_engines + 1 → length (chain_line x) ≤ chain_line_room
+chain_fits x h l =
+    let short = line_most 1 chain_word (x.first.0 ∷ x.length ∷ []) in
+    omega (arith, short (omega arith, (omega arith, tt)))
+
+-- the loads of a judged table, in block 0 one for each run, in a later block those but for the carried; and how long their line is
+pub loads_told : (t : Table) → Ranged small t → Meets t → {runs kept : ℕ} → runs ≡ length t.runs → kept ≡ carried t
+    → print_line loads_word (runs ∷ (runs - kept) ∷ []) ≡ loads_line t
+loads_told t g o {runs} {kept} e f =
+    let one : loads t 1 ≡ length t.runs = loads_are small t g o 1 ∙ omega arith in
+    let two : loads t 2 ≡ length t.runs + (length t.runs - carried t) = loads_are small t g o 2 ∙ omega arith in
+    let later : loads t 2 - loads t 1 ≡ runs - kept = omega arith in
+    rw (later, one, e) refl
+
+pub loads_fit : (first later : ℕ) → first ≤ most_runs → later ≤ most_runs
+    → length (print_line loads_word (first ∷ later ∷ [])) ≤ loads_line_room
+loads_fit first later h l = omega (arith, line_most 6 loads_word (first ∷ later ∷ []) (omega arith, (omega arith, tt)))
+
+-- a text laid over a buffer is laid there by another name too
+pub by_name : (l : List ℕ) {w v xs : List ℕ} → xs ≡ over w l → w ≡ v → xs ≡ over v l
+by_name l e f = e ∙ ap (λ (z : List ℕ). over z l) f

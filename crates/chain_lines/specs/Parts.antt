@@ -9,5 +9,8 @@ use Rattle.paper.specs.Text.{chain_line, loads_line}
 abbrev pub lines_below : (ℕ → Bool) → ℕ → ℕ → List ℕ
 lines_below c m k = flat chain_line (chains_below c m k)
 
+abbrev pub chain_lines : Table → List ℕ
+chain_lines t = flat chain_line (chains t)
+
 abbrev pub rotation_lines : Table → List ℕ
-rotation_lines t = flat chain_line (chains t) ++ loads_line t
+rotation_lines t = chain_lines t ++ loads_line t

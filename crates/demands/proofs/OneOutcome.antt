@@ -17,7 +17,8 @@ use Rattle.paper.specs.declared.Row.{Row}
 use Rattle.paper.specs.declared.Reading.{Reading}
 use Rattle.paper.specs.declared.Refusal.{Refusal}
 use Rattle.paper.specs.declared.Fault.{Fault}
-use Rattle.paper.specs.declared.Fault.TheVariants.{Form, BlockLength as Undivided, Slice, Order, Overlap, Joint, Twice, Service as OffService}
+use Rattle.paper.specs.declared.Fault.TheVariants.{Form, BlockLength as Undivided, Slice, Order, Overlap, Joint, Twice}
+use Rattle.paper.specs.declared.Fault.TheVariants.{Service as OffService}
 use Rattle.paper.specs.declared.Refusal.TheVariants.{Engines, Lengths, Duties, Period, Service, PartSlice, Overload, Room, Input}
 use Rattle.paper.specs.declared.Refusal.TheVariants.{Table, NoEngine, ManyBlocks, StrangeState, LastBlock, ManyShareBlocks, ShareBlock}
 use Rattle.paper.specs.declared.Refusal.TheVariants.{BlockLength, Lent}
@@ -155,8 +156,8 @@ pub judged_one : {x y : Result Reading Fault} {o : Outcome Reading} → judged_a
 judged_one p q = one_to_one judged_as judged_for judged-back (p ∙ sym q)
 
 -- whatever writes: the builder, and the text of a plan
-pub written_one : {o : Outcome (List ℕ)} {x y : Result ℕ Refusal} {before a b : List ℕ} → Writes o x before a → Writes o y before b → (x ≡ y)
-    × (a ≡ b)
+pub written_one : {o : Outcome (List ℕ)} {x y : Result ℕ Refusal} {before a b : List ℕ} → Writes o x before a → Writes o y before b
+    → (x ≡ y) × (a ≡ b)
 written_one p q = (outcome_one p.said q.said, p.left ∙ sym q.left)
 
 -- the question

@@ -1,21 +1,22 @@
-// The rows of all engines in a block, worked out from the block's number, chain by chain; and lists of rows compared.
+// The rows of all engines in a block, worked out from the block's number, chain by chain.
 #![tactic(auto)]
 
 ghost use Rattle.std.specs.Prelude.{◌≡◌, ◌≤◌};
-ghost use Rattle.laws.specs.Lists.{same_list};
 ghost use Rattle.paper.specs.Limits.{most_engines};
-ghost use Rattle.paper.specs.Words.{row_numbers};
 ghost use Rattle.paper.specs.Answers.{rows_at};
+ghost use Rattle.paper.specs.Rotation.{link};
 ghost use Rattle.row_edges.specs.Links.{link_of};
 ghost use Rattle.rotation.specs.Turning.{IsTurned};
 ghost use Rattle.dispatch_rows.specs.AtHand.{AtHand};
 
-use paper::limits::{EDGES, MOST_ENGINES};
+use paper::limits::MOST_ENGINES;
 use paper::{Chain, Engine, Row};
 use rotation::{Turned, row_of, turned_at};
+use row_edges::Edges;
+use table_tally::Accepted;
 
 // The chain of a row in a block: the one at hand, if it reaches so far, or else the next.
-fn onward(edges: &[u32; EDGES], block: u64, turned: Turned, row: Row) -> Turned
+fn onward(edges: &Edges, block: u64, turned: Turned, row: Row) -> Turned
     requires { (row.0 ≤ most_engines) × AtHand (link_of edges.now) block row.0 turned }
     ensures { IsTurned (link_of edges.now) block row.0 result }
 {
@@ -26,10 +27,11 @@ fn onward(edges: &[u32; EDGES], block: u64, turned: Turned, row: Row) -> Turned
 }
 
 // The rows of all engines in a block: one chain after the other, each found once. At first there is none at hand.
-pub fn rows_at(edges: &[u32; EDGES], engines: u32, block: u64) -> [Row; MOST_ENGINES]
-    requires { engines ≤ most_engines }
-    ensures { result ≡ rows_at (link_of edges.now) engines block }
+pub fn rows_at(accepted: &Accepted, block: u64) -> [Row; MOST_ENGINES]
+    ensures { result ≡ rows_at (link accepted.now) accepted.now.engines block }
 {
+    let edges = accepted.edges();
+    let engines = accepted.table().reading().engines;
     let mut rows = [Row(0); MOST_ENGINES];
     let mut turned = Turned {
         chain: Chain {
@@ -38,26 +40,10 @@ pub fn rows_at(edges: &[u32; EDGES], engines: u32, block: u64) -> [Row; MOST_ENG
         },
         places: 0,
     };
-    let mut i: u32 = 0;
-    while i < engines {
+    for i in 0..engines {
         turned = onward(edges, block, turned, Row(i));
         let at = i as usize;
         rows[at] = row_of(turned, Engine(i));
-        i += 1;
     }
     rows
-}
-
-// Whether two lists of rows are the same.
-pub fn same_rows(a: [Row; MOST_ENGINES], b: [Row; MOST_ENGINES]) -> bool
-    ensures { result ≡ same_list (row_numbers a) (row_numbers b) }
-{
-    let mut i = 0;
-    while i < MOST_ENGINES {
-        if a[i].0 != b[i].0 {
-            return false;
-        }
-        i += 1;
-    }
-    true
 }

@@ -1,1 +1,2 @@
+mod SameRows
 mod Deciding

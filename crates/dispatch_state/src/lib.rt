@@ -2,87 +2,76 @@
 // block after it, the row of an engine, or a refusal with no state.
 #![tactic(auto)]
 
-ghost use Rattle.std.specs.Prelude.{◌≡◌, ◌≤◌};
-ghost use Rattle.paper.specs.Limits.{most_engines};
-ghost use Rattle.paper.specs.Outcome.{answer, refused_as};
-ghost use Rattle.paper.specs.Answers.{Hands, state_at, is_state, next_by, row_by, row_as};
-ghost use Rattle.row_edges.specs.Links.{link_of};
+ghost use Rattle.std.specs.Prelude.{◌≡◌};
+ghost use Rattle.paper.specs.Outcome.{outcome_of};
+ghost use Rattle.paper.specs.Answers.{Hands, state_at, is_state, next_by, row_by};
+ghost use Rattle.paper.specs.Rotation.{link};
 
-use dispatch_rows::{rows_at, same_rows};
-use paper::limits::{EDGES, LAST_BLOCK, MOST_ENGINES};
-use paper::{Dispatched, Engine, Refusal, Row, RowTold, State, Verdict};
+use dispatch_rows::rows_at;
+use paper::limits::{LAST_BLOCK, MOST_ENGINES};
+use paper::{Dispatched, Engine, Refusal, Row, State};
 use rotation::row_in;
+use table_tally::Accepted;
 
 // Whether a state is the one for its block.
-fn is_own(edges: &[u32; EDGES], engines: u32, s: State) -> bool
-    requires { engines ≤ most_engines }
-    ensures { result ≡ is_state (link_of edges.now) engines s }
+fn is_own(accepted: &Accepted, s: State) -> bool
+    ensures { result ≡ is_state (link accepted.now) accepted.now.engines s }
 {
-    let rows = s.rows;
-    same_rows(rows, rows_at(edges, engines, s.block))
+    s.rows == rows_at(accepted, s.block)
 }
 
 // The state of a block.
-pub fn state_at(edges: &[u32; EDGES], engines: u32, block: u64) -> Dispatched
-    requires { engines ≤ most_engines }
-    ensures { Hands (answer (state_at (link_of edges.now) engines block)) result }
+pub fn state_at(accepted: &Accepted, block: u64) -> State
+    ensures { result ≡ state_at (link accepted.now) accepted.now.engines block }
 {
-    let rows = rows_at(edges, engines, block);
-    Dispatched {
-        verdict: Verdict::Done,
-        state: State { block, rows },
-    }
-}
-
-// A refusal, with a state that is none.
-pub fn refuse(why: Refusal) -> Dispatched
-    ensures { Hands (refused_as why) result }
-{
-    let rows = [Row(0); MOST_ENGINES];
-    Dispatched {
-        verdict: Verdict::Refused(why),
-        state: State { block: 0, rows },
-    }
+    let rows = rows_at(accepted, block);
+    State { block, rows }
 }
 
 // The state of the block after a state's.
-pub fn advance(edges: &[u32; EDGES], engines: u32, s: State) -> Dispatched
-    requires { engines ≤ most_engines }
-    ensures { Hands (next_by (link_of edges.now) engines s) result }
+pub fn advance(accepted: &Accepted, s: State) -> Result<State, Refusal>
+    ensures { outcome_of result ≡ next_by (link accepted.now) accepted.now.engines s }
 {
-    if !is_own(edges, engines, s) {
-        return refuse(Refusal {
-            number: 20,
-            place: 0,
-        });
+    if !is_own(accepted, s) {
+        return Err(Refusal::StrangeState);
     }
     let block = s.block;
     if block == LAST_BLOCK {
-        return refuse(Refusal {
-            number: 21,
-            place: 0,
-        });
+        return Err(Refusal::LastBlock);
     }
     let next = block + 1;
-    state_at(edges, engines, next)
+    Ok(state_at(accepted, next))
 }
 
 // The row of an engine by a state.
-pub fn tell(edges: &[u32; EDGES], engines: u32, s: State, engine: Engine) -> RowTold
-    requires { engines ≤ most_engines }
-    ensures { row_as result ≡ row_by (link_of edges.now) engines s engine }
+pub fn tell(accepted: &Accepted, s: State, engine: Engine) -> Result<Row, Refusal>
+    ensures { outcome_of result ≡ row_by (link accepted.now) accepted.now.engines s engine }
 {
+    let engines = accepted.table().reading().engines;
     if engines <= engine.0 {
-        return RowTold::Refused(Refusal {
-            number: 18,
-            place: 0,
-        });
+        return Err(Refusal::NoEngine);
     }
-    if !is_own(edges, engines, s) {
-        return RowTold::Refused(Refusal {
-            number: 20,
-            place: 0,
-        });
+    if !is_own(accepted, s) {
+        return Err(Refusal::StrangeState);
     }
-    RowTold::At(row_in(edges, engine, s.block))
+    Ok(row_in(accepted.edges(), engine, s.block))
+}
+
+// What a dispatcher hands back: the state, or a refusal with a state beside it that is none.
+pub fn handed(outcome: Result<State, Refusal>) -> Dispatched
+    ensures { Hands (outcome_of outcome) result }
+{
+    match outcome {
+        Ok(state) => Dispatched {
+            verdict: Ok(()),
+            state,
+        },
+        Err(why) => {
+            let rows = [Row(0); MOST_ENGINES];
+            Dispatched {
+                verdict: Err(why),
+                state: State { block: 0, rows },
+            }
+        }
+    }
 }

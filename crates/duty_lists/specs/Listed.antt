@@ -5,8 +5,7 @@ use Rattle.paper.specs.Duties.{duty_at}
 use Rattle.paper.specs.Limits.{most_duties}
 use Rattle.paper.specs.Statements.{DutyRanged}
 
--- there are some, no more than a table has, and each is in range
+-- they are no more than a table has, and each is in range
 pub record Listed (ds : List Duty) : Type 0 where
-  pub some : 1 ≤ length ds
   pub few : length ds ≤ most_duties
   pub ranged : (i : ℕ) → i < length ds → DutyRanged (duty_at ds i)

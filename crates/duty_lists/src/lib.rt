@@ -38,6 +38,7 @@ impl<'a> Model for Duties<'a> {
 
 impl<'a> Duties<'a> {
     // How many duties there are.
+    #[tactic(auto, using(plan_laws::proofs::Planned::length_duties))]
     pub fn len(&self) -> usize
         ensures count { result ≡ length self.now }
         ensures listed { Listed self.now }
@@ -46,6 +47,7 @@ impl<'a> Duties<'a> {
     }
 
     // Duty i.
+    #[tactic(auto, using(plan_laws::proofs::Planned::length_duties, plan_laws::proofs::Planned::duty_is))]
     pub fn duty(&self, i: usize) -> Duty
         requires { i < length self.now }
         ensures value { result ≡ duty_at self.now i }
@@ -61,6 +63,7 @@ impl<'a> Duties<'a> {
     }
 
     // The greatest block length: the periods' greatest common divisor.
+    #[tactic(auto, using(plan_laws::proofs::Planned::block_length_is))]
     pub fn greatest(&self) -> u32
         ensures { result ≡ block_length_of self.now }
     {
@@ -82,6 +85,7 @@ fn bad_range(services: &[u32], periods: &[u32]) -> usize
 }
 
 // Takes the duties of the two lists, after tests 1 to 5 in their order.
+#[tactic(auto, using(crate::proofs::Testing::tests_told))]
 pub fn take_duties<'a>(
     engines: u32,
     services: &'a [u32],

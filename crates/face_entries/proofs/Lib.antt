@@ -1,2 +1,1 @@
-pub mod Stored
-mod Opened
+pub mod FromFn

@@ -1,9 +1,8 @@
--- A verdict whose refusal, if it is one, fits a word: its number a byte, its place within the bound.
-use Rattle.std.specs.Prelude.{◌≤◌, ◌<◌, ◌≡◌}
+-- An answer whose refusal, if it is one, fits a word: its place is within the bound.
+use Rattle.std.specs.Prelude.{◌≤◌, ◌≡◌, Result, Err}
 use Rattle.paper.specs.declared.Refusal.{Refusal}
-use Rattle.paper.specs.declared.Verdict.{Verdict}
-use Rattle.paper.specs.declared.Verdict.TheVariants.{Refused}
+use Rattle.paper.specs.Outcome.{place_of}
 use Rattle.paper.specs.Limits.{most_place}
 
-abbrev pub InWord : Verdict → Type 0
-InWord v = (x : Refusal) → v ≡ Refused x → (x.number < 256) × (x.place ≤ most_place)
+abbrev pub InWord : {A : Type 0} → Result A Refusal → Type 0
+InWord r = (x : Refusal) → r ≡ Err x → place_of x ≤ most_place

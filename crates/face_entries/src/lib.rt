@@ -1,49 +1,127 @@
-// Lists that a caller of the face lends: the entries of answers put; a dispatcher's state, the block and then the rows, taken and put; and
+// Lists that a caller of the face lends: the entries of answers told; a dispatcher's state, the block and then the rows, taken and put; and
 // what a dispatcher hands back, handed over.
 #![tactic(auto)]
 
-ghost use Rattle.std.specs.Prelude.{◌≡◌, ◌∷◌, ◌≤◌, length};
-ghost use Rattle.laws.specs.Lists.{over};
-ghost use Rattle.paper.specs.Limits.{reading_room, reply_room, share_reading_room, state_room};
-ghost use Rattle.paper.specs.Words.{row_numbers};
-ghost use Rattle.paper.specs.Outcome.{verdict_as};
-ghost use Rattle.paper.specs.Face.{Tells, entries, reading_entries, reply_entries, state_entries, share_reading_entries};
+ghost use Rattle.std.specs.Prelude.{◌≡◌, [], ◌∷◌, ◌≤◌, length, ℕ, List};
+ghost use Rattle.paper.specs.Limits.{state_room};
+ghost use Rattle.paper.specs.Outcome.{verdict_as, outcome_of};
+ghost use Rattle.paper.specs.Face.{Tells, entries, reading_entries, reply_entries, state_entries, share_reading_entries, held_entry};
 ghost use Rattle.face_entries.specs.InWord.{InWord};
 ghost use Rattle.face_entries.specs.Cut.{cut_state};
 
 use face_words::{held_entry, narrow, word_of};
-use paper::limits::MOST_ENGINES;
-use paper::{Dispatched, Reading, Reply, Row, ShareReading, State, Verdict};
+use paper::limits::{READING_ROOM, REPLY_ROOM, SHARE_READING_ROOM, STATE_ROOM, WORD_ROOM};
+use paper::{Dispatched, Held, Reading, Refusal, Reply, Row, ShareReading, State};
+use std::array;
 
-// A table's reading put into a lent answer: block length, engines, duties, runs.
-pub fn put_reading(answer: &mut [u64], rd: Reading)
-    requires { reading_room ≤ length answer.old }
-    ensures { answer.new ≡ over (reading_entries rd) answer.old }
-{
-    answer[0] = rd.block_length as u64;
-    answer[1] = rd.engines as u64;
-    answer[2] = rd.duties as u64;
-    answer[3] = rd.runs as u64;
+// What a call answers with, as so many entries of a lent list.
+pub trait Entries<const N: usize> {
+    ghost told: { Self → List ℕ };
+
+    fn entries(self) -> [u64; N]
+        ensures { result ≡ told self };
 }
 
-// A reply put into a lent answer: the row, and the duty or the mark for idle.
-pub fn put_reply(answer: &mut [u64], reply: Reply)
-    requires { reply_room ≤ length answer.old }
-    ensures { answer.new ≡ over (reply_entries reply) answer.old }
-{
-    let held = reply.held;
-    answer[0] = reply.row.0 as u64;
-    answer[1] = held_entry(held);
+// A number: how many bytes a table has.
+impl Entries<WORD_ROOM> for usize {
+    ghost told = { λ n. n ∷ [] };
+
+    fn entries(self) -> [u64; WORD_ROOM] {
+        [self as u64]
+    }
 }
 
-// What is told of a plan of shares put into a lent answer: entries, block length, blocks.
-pub fn put_share_reading(answer: &mut [u64], rd: ShareReading)
-    requires { share_reading_room ≤ length answer.old }
-    ensures { answer.new ≡ over (share_reading_entries rd) answer.old }
+// A number: the loads.
+impl Entries<WORD_ROOM> for u64 {
+    ghost told = { λ n. n ∷ [] };
+
+    fn entries(self) -> [u64; WORD_ROOM] {
+        [self]
+    }
+}
+
+// A row.
+impl Entries<WORD_ROOM> for Row {
+    ghost told = { λ r. r.0 ∷ [] };
+
+    fn entries(self) -> [u64; WORD_ROOM] {
+        [u64::from(self.0)]
+    }
+}
+
+// What holds a tick: the duty, or the mark for idle.
+impl Entries<WORD_ROOM> for Held {
+    ghost told = { λ h. held_entry h ∷ [] };
+
+    fn entries(self) -> [u64; WORD_ROOM] {
+        [held_entry(self)]
+    }
+}
+
+// A table's reading: block length, engines, duties, runs.
+impl Entries<READING_ROOM> for Reading {
+    ghost told = { reading_entries };
+
+    fn entries(self) -> [u64; READING_ROOM] {
+        let Reading {
+            block_length,
+            engines,
+            duties,
+            runs,
+        } = self;
+        [block_length, engines, duties, runs].map(u64::from)
+    }
+}
+
+// A reply: the row, and the duty or the mark for idle.
+impl Entries<REPLY_ROOM> for Reply {
+    ghost told = { reply_entries };
+
+    fn entries(self) -> [u64; REPLY_ROOM] {
+        let row = u64::from(self.row.0);
+        let held = held_entry(self.held);
+        [row, held]
+    }
+}
+
+// What is told of a plan of shares: entries, block length, blocks.
+impl Entries<SHARE_READING_ROOM> for ShareReading {
+    ghost told = { share_reading_entries };
+
+    fn entries(self) -> [u64; SHARE_READING_ROOM] {
+        [
+            self.entries as u64,
+            u64::from(self.block_length),
+            u64::from(self.blocks),
+        ]
+    }
+}
+
+// A dispatcher's state: the block, then the rows.
+impl Entries<STATE_ROOM> for State {
+    ghost told = { state_entries };
+
+    fn entries(self) -> [u64; STATE_ROOM] {
+        let State { block, rows } = self;
+        let mut entries = [block; STATE_ROOM];
+        entries[1..].copy_from_slice(&rows.map(|row| u64::from(row.0)));
+        entries
+    }
+}
+
+// A call's answer as a word, and as entries over the front of the lent list where it is no refusal.
+pub fn tell<const N: usize, A: Entries<N>>(outcome: Result<A, Refusal>, answer: &mut [u64]) -> u64
+    requires fits { InWord outcome }
+    requires room { N ≤ length answer.old }
+    ensures { Tells (entries A.told (outcome_of outcome)) result answer.old answer.new }
 {
-    answer[0] = rd.entries as u64;
-    answer[1] = rd.block_length as u64;
-    answer[2] = rd.blocks as u64;
+    match outcome {
+        Err(why) => word_of(why),
+        Ok(told) => {
+            answer[..N].copy_from_slice(&told.entries());
+            0
+        }
+    }
 }
 
 // The state in a lent list; an entry too large for a row becomes a number that no row has.
@@ -51,28 +129,9 @@ pub fn state_in(state: &[u64]) -> State
     requires { state_room ≤ length state.now }
     ensures { result ≡ cut_state state.now }
 {
-    let mut rows = [Row(0); MOST_ENGINES];
-    let mut e = 0;
-    while e < MOST_ENGINES {
-        rows[e] = Row(narrow(state[e + 1]));
-        e += 1;
-    }
     let block = state[0];
+    let rows = array::from_fn(|e| Row(narrow(state[e + 1])));
     State { block, rows }
-}
-
-// A block and its rows put into a lent state.
-pub fn put_state(state: &mut [u64], block: u64, rows: [Row; MOST_ENGINES])
-    requires { state_room ≤ length state.old }
-    ensures { state.new ≡ over (block ∷ row_numbers rows) state.old }
-{
-    state[0] = block;
-    let mut e = 0;
-    while e < MOST_ENGINES {
-        let row = rows[e];
-        state[e + 1] = row.0 as u64;
-        e += 1;
-    }
 }
 
 // What a dispatcher hands back as a word, and as the entries of its state where it is done.
@@ -80,14 +139,5 @@ pub fn hand_over(done: Dispatched, state: &mut [u64]) -> u64
     requires { InWord done.verdict × (state_room ≤ length state.old) }
     ensures { Tells (entries state_entries (verdict_as done.verdict done.state)) result state.old state.new }
 {
-    let verdict = done.verdict;
-    match verdict {
-        Verdict::Refused(why) => word_of(why),
-        Verdict::Done => {
-            let next = done.state;
-            let rows = next.rows;
-            put_state(state, next.block, rows);
-            0
-        }
-    }
+    tell(done.verdict.map(|()| done.state), state)
 }

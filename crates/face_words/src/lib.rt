@@ -2,8 +2,9 @@
 // tick as an entry.
 #![tactic(auto)]
 
-ghost use Rattle.std.specs.Prelude.{◌≡◌, ◌+◌, ◌*◌, ◌≤◌, ◌<◌, min};
+ghost use Rattle.std.specs.Prelude.{◌≡◌, ◌+◌, ◌*◌, ◌≤◌, min};
 ghost use Rattle.paper.specs.Limits.{most_place, no_row};
+ghost use Rattle.paper.specs.Outcome.{number_of, place_of};
 ghost use Rattle.paper.specs.Face.{held_entry};
 
 use paper::limits::{IDLE, NO_ROW};
@@ -11,10 +12,10 @@ use paper::{Held, Refusal};
 
 // A refusal as a word.
 pub fn word_of(why: Refusal) -> u64
-    requires { (why.number < 256) × (why.place ≤ most_place) }
-    ensures { result ≡ why.number + 256 * why.place }
+    requires { place_of why ≤ most_place }
+    ensures { result ≡ number_of why + 256 * place_of why }
 {
-    why.number as u64 + 256 * why.place as u64
+    u64::from(why.number()) + 256 * why.place() as u64
 }
 
 // The word for a lent list that is too short, with the entries needed.
@@ -22,25 +23,19 @@ pub fn too_short(needed: usize) -> u64
     requires { needed ≤ most_place }
     ensures { result ≡ 255 + 256 * needed }
 {
-    word_of(Refusal {
-        number: 255,
-        place: needed,
-    })
+    word_of(Refusal::Lent(needed))
 }
 
 // An entry of a lent state as a row number; one that is too large becomes a number that no row has.
 pub fn narrow(x: u64) -> u32
     ensures { result ≡ min x no_row }
 {
-    if x < NO_ROW as u64 { x as u32 } else { NO_ROW }
+    u32::try_from(x).unwrap_or(NO_ROW)
 }
 
 // What holds a tick as one entry: the duty, or the mark for idle.
 pub fn held_entry(held: Held) -> u64
     ensures { result ≡ held_entry held }
 {
-    match held {
-        Held::By(duty) => duty as u64,
-        Held::Idle => IDLE,
-    }
+    held.map_or(IDLE, u64::from)
 }

@@ -6,7 +6,7 @@ ghost use Rattle.std.specs.Prelude.{◌≤◌, [], ◌∷◌, length};
 ghost use Rattle.laws.specs.Lists.{flat};
 ghost use Rattle.paper.specs.Limits.{refused_line_room};
 ghost use Rattle.paper.specs.Text.{print_line, refused_word};
-ghost use Rattle.paper.specs.Outcome.{Puts};
+ghost use Rattle.paper.specs.Outcome.{Puts, number_of, place_of};
 ghost use Rattle.number_print.specs.Spaced.{spaced};
 
 use number_print::print_number;
@@ -19,10 +19,8 @@ fn print_numbers(out: &mut [u8], numbers: &[u64]) -> usize
     ensures { Puts (flat spaced numbers.now) out.old out.new result }
 {
     let mut at = 0;
-    let mut i = 0;
-    while i < numbers.len() {
-        at += print_number(&mut out[at..], numbers[i]);
-        i += 1;
+    for n in numbers {
+        at += print_number(&mut out[at..], *n);
     }
     at
 }
@@ -42,10 +40,10 @@ pub fn print_line(out: &mut [u8], word: &[u8], numbers: &[u64]) -> usize
 // A refusal: number, place.
 pub fn print_refused(out: &mut [u8], why: Refusal) -> usize
     requires { refused_line_room ≤ length out.old }
-    ensures { Puts (print_line refused_word (why.number ∷ why.place ∷ [])) out.old out.new result }
+    ensures { Puts (print_line refused_word (number_of why ∷ place_of why ∷ [])) out.old out.new result }
 {
-    let number = why.number as u64;
-    let place = why.place as u64;
+    let number = u64::from(why.number());
+    let place = why.place() as u64;
     let numbers = [number, place];
     print_line(out, b"refused", &numbers)
 }

@@ -1,2 +1,1 @@
-pub mod Dash
-pub mod DutyLines
+pub mod First

@@ -15,21 +15,14 @@ pub fn find(b: &[u8], x: u8) -> usize
     ensures value { result ≡ first (λ k. eqb (get_or b.now k 0) x) (length b.now) }
     ensures upper_bound { result ≤ length b.now }
 {
-    let mut i = 0;
-    while i < b.len() {
-        if b[i] == x {
-            return i;
-        }
-        i += 1;
-    }
-    i
+    b.iter().position(|y| *y == x).unwrap_or(b.len())
 }
 
 // Whether the first line is `-`.
 fn is_dash(c: &[u8]) -> bool
     ensures { result ≡ is_dash c.now }
 {
-    if c.len() == 1 { c[0] == b'-' } else { false }
+    c == b"-".as_slice()
 }
 
 // Whether the first line names the engines, or leaves it at `-`.

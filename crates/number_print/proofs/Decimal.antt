@@ -128,11 +128,11 @@ drop-set-same l i v h =
 
 pub storing_more :
     (n k left : ℕ) (l xs : List ℕ) → Storing n l xs k left → 0 < k → k < length xs
-    → Storing n l (set xs k (48 + left % 10)) (k - 1) (left / 10)
+    → Storing n l (set xs (k - 1 + 1) (48 + left % 10)) (k - 1) (left / 10)
 storing_more n zero left l xs s h p = absurd (omega arith)
 storing_more n (suc k) left l xs s h p =
     let z : suc k - 1 ≡ k = omega arith in
-    record { is = rw (z, drop-set-same xs (suc k) (48 + left % 10) p) (sym (last_step k left (drop (suc (suc k)) xs)) ∙ s.is) }
+    record { is = rw (z, add-one, drop-set-same xs (suc k) (48 + left % 10) p) (sym (last_step k left (drop (suc (suc k)) xs)) ∙ s.is) }
 
 pub storing_end :
     (n k left : ℕ) (l xs : List ℕ) → Storing n l xs k left → k ≡ 0 → 0 < length xs → set xs 0 32 ≡ over (32 ∷ decimal n) l

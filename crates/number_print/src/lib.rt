@@ -7,7 +7,7 @@ ghost use Rattle.paper.specs.Text.{decimal};
 ghost use Rattle.paper.specs.Outcome.{Puts};
 ghost use Rattle.number_print.specs.Spaced.{spaced};
 
-// How many digits a number has in decimal.
+// How many digits a number has in decimal. Not by the kit's `itoa`: the wrong program `leading_zero` has no place in it.
 fn digit_count(n: u64) -> usize
     ensures { (result ≡ length (decimal n)) × (result ≤ word_digits) }
 {
@@ -26,12 +26,10 @@ pub fn print_number(out: &mut [u8], n: u64) -> usize
     ensures { Puts (spaced n) out.old out.new result }
 {
     let count = digit_count(n);
-    let mut k = count;
     let mut left = n;
-    while 0 < k {
-        out[k] = b'0' + (left % 10) as u8;
+    for k in (0..count).rev() {
+        out[k + 1] = b'0' + (left % 10) as u8;
         left /= 10;
-        k -= 1;
     }
     out[0] = b' ';
     count + 1

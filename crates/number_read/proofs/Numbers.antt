@@ -2,7 +2,7 @@
 -- value, and n digits after v stay below v + 1 and n zeros: so with nine digits every number on the way fits.
 -- Assumes nothing.
 use Prim.Native.Nat.{ℕ, zero, suc, ◌+◌, ◌-◌, ◌*◌, ◌^◌, ◌≤◌, ◌<◌}
-use mathlib.Core.Path.{◌≡◌, refl, sym, ◌∙◌}
+use mathlib.Core.Path.{◌≡◌, refl, sym, ap, ◌∙◌}
 use mathlib.Core.Bool.{Bool, true, false, not, ◌&&◌, ◌||◌}
 use mathlib.Core.List.{List, [], ◌∷◌}
 use native.Mathlib.Nat.{not-suc-le-zero, le_of_suc-le-suc, pow-suc, mul-le-mul_right, pow-le-pow_right}
@@ -12,6 +12,8 @@ use lib.Dec.{leb, eqb}
 use lib.ListN.{length, get_or, drop, drop_of_length-le}
 use lib.Seq.{drop-cons}
 use borrow.Author.Tests.{le-leb}
+use Rattle.std.specs.List.{list_all}
+use Rattle.std.specs.Char.{is_ascii_digit}
 use Rattle.laws.proofs.Cases.{and_left, and_right}
 use Rattle.paper.specs.Limits.{most_digits}
 use Rattle.paper.specs.Bytes.{within}
@@ -23,10 +25,6 @@ digits-first : (x : ℕ) (xs : List ℕ) → all_digits (x ∷ xs) ≡ within 48
 unfolding all_digits
 digits-first x xs = refl
 
-digits_none : all_digits [] ≡ true
-unfolding all_digits
-digits_none = refl
-
 value-first : (v x : ℕ) (xs : List ℕ) → value_from v (x ∷ xs) ≡ value_from (v * 10 + (x - 48)) xs
 unfolding value_from
 value-first v x xs = refl
@@ -35,14 +33,13 @@ value_none : (v : ℕ) → value_from v [] ≡ v
 unfolding value_from
 value_none v = refl
 
--- what is left of the digits, one further, by whether the byte passed is a digit, and at the end
-pub digits_step : (c : List ℕ) (i : ℕ) (t : Bool) → i < length c → within 48 57 (get_or c i 0) ≡ t
-    → all_digits (drop i c) ≡ t && all_digits (drop (i + 1) c)
-digits_step c i t h p = rw (add-one, drop-cons c i 0 h, ← p) (digits-first (get_or c i 0) (drop (suc i) c))
+-- the library's word for a test of every element says the same
+pub all_are_digits : (c : List ℕ) → list_all is_ascii_digit c ≡ all_digits c
+unfolding all_digits
+all_are_digits [] = refl
+all_are_digits (x ∷ xs) = ap (λ (t : Bool). is_ascii_digit x && t) (all_are_digits xs)
 
-pub digits_end : (c : List ℕ) (i : ℕ) → length c ≤ i → all_digits (drop i c) ≡ true
-digits_end c i h = rw (drop_of_length-le c h) digits_none
-
+-- what is left of a number, one digit further and at the end
 pub value_step : (v : ℕ) (c : List ℕ) (i : ℕ) → i < length c
     → value_from v (drop i c) ≡ value_from (v * 10 + (get_or c i 0 - 48)) (drop (i + 1) c)
 value_step v c i h = rw (add-one, drop-cons c i 0 h) (value-first v (get_or c i 0) (drop (suc i) c))

@@ -2,37 +2,24 @@
 #![tactic(auto)]
 
 ghost use Rattle.std.specs.Prelude.{◌≡◌, true};
-ghost use Rattle.paper.specs.Bytes.{within};
-ghost use Rattle.paper.specs.Text.{zero_digit, nine_digit, all_digits, is_number, value};
+ghost use Rattle.std.specs.List.{list_all};
+ghost use Rattle.std.specs.Char.{is_ascii_digit};
+ghost use Rattle.paper.specs.Text.{is_number, value};
 
 use paper::limits::MOST_DIGITS;
 
-// Whether a byte is one of `0` to `9`.
-fn is_digit(x: u8) -> bool
-    ensures { result ≡ within zero_digit nine_digit x }
-{
-    (b'0' <= x) & (x <= b'9')
-}
-
 // Whether all of the bytes are digits.
 fn all_digits(c: &[u8]) -> bool
-    ensures { result ≡ all_digits c.now }
+    ensures { result ≡ list_all is_ascii_digit c.now }
 {
-    let mut i = 0;
-    while i < c.len() {
-        if !is_digit(c[i]) {
-            return false;
-        }
-        i += 1;
-    }
-    true
+    c.iter().all(|x| x.is_ascii_digit())
 }
 
 // Whether the bytes write a number: 1 to 9 digits and no leading zero, save `0` itself.
 pub fn is_number(c: &[u8]) -> bool
     ensures { result ≡ is_number c.now }
 {
-    if c.len() == 0 {
+    if c.is_empty() {
         return false;
     }
     (c.len() <= MOST_DIGITS) & all_digits(c) & ((c.len() == 1) | (c[0] != b'0'))
@@ -43,11 +30,9 @@ pub fn value_of(c: &[u8]) -> u32
     requires { is_number c.now ≡ true }
     ensures { result ≡ value c.now }
 {
-    let mut v: u32 = 0;
-    let mut i = 0;
-    while i < c.len() {
-        v = v * 10 + (c[i] - b'0') as u32;
-        i += 1;
+    let mut v = 0;
+    for x in c {
+        v = v * 10 + u32::from(*x - b'0');
     }
     v
 }

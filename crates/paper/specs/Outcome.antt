@@ -3,7 +3,8 @@
 use Rattle.std.specs.Prelude.{ℕ, ◌≡◌, Result, Ok, Err, ⊤, List, length}
 use Rattle.laws.specs.Lists.{over}
 use Rattle.paper.specs.declared.Fault.{Fault}
-use Rattle.paper.specs.declared.Fault.TheVariants.{Form, BlockLength as Undivided, Slice, Order, Overlap, Joint, Twice, Service as OffService}
+use Rattle.paper.specs.declared.Fault.TheVariants.{Form, BlockLength as Undivided, Slice, Order, Overlap, Joint, Twice}
+use Rattle.paper.specs.declared.Fault.TheVariants.{Service as OffService}
 use Rattle.paper.specs.declared.Refusal.{Refusal}
 use Rattle.paper.specs.declared.Refusal.TheVariants.{Engines, Lengths, Duties, Period, Service, PartSlice, Overload, Room, Input}
 use Rattle.paper.specs.declared.Refusal.TheVariants.{Table, NoEngine, ManyBlocks, StrangeState, LastBlock, ManyShareBlocks, ShareBlock}

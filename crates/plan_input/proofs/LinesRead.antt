@@ -14,7 +14,7 @@ use Rattle.laws.proofs.Cases.{lt_or_le}
 use Rattle.laws.proofs.Lists.{set-tab, tab_zeros}
 use Rattle.laws.proofs.Writing.{length-lent}
 use Rattle.paper.specs.declared.Duty.{Duty}
-use Rattle.paper.specs.declared.Verdict.TheVariants.{Done}
+use Rattle.paper.specs.declared.Input.{Input}
 use Rattle.paper.specs.Duties.{services_of, periods_of}
 use Rattle.paper.specs.Outcome.{Outcome, refused, answer, and_then}
 use Rattle.paper.specs.Limits.{most_duties}
@@ -110,7 +110,7 @@ ahead b i at k h g =
 pub broken :
     (b services periods : List ℕ) (e i at : ℕ) (xs : List ℕ) (k : ℕ) → LinesRead b services periods i at → xs ≡ drop at b
     → k ≡ feed_in xs → at < length b → line_good i xs k ≡ false
-    → input_read (refused 9 (i + 2)) ≡ input_read (with_engines e (duties_from 2 (lines_of b)))
+    → refused 9 (i + 2) ≡ input_read (with_engines e (duties_from 2 (lines_of b)))
 broken b services periods e i at xs k r d f h g =
     let long : 0 < length xs = rw (d, length-drop) (omega arith) in
     let bad = duties_line i xs k false f long g in
@@ -119,8 +119,8 @@ broken b services periods e i at xs k r d f h g =
 -- at the end of the text
 pub finished :
     (b services periods : List ℕ) (e i at : ℕ) → LinesRead b services periods i at → length b ≤ at
-    → record { verdict = Done; input = record { engines = e; duties = i; services = services; periods = periods } }
-    ≡ input_read (with_engines e (duties_from 2 (lines_of b)))
+    → ◌≡◌ {A = Outcome Input} (answer (record { engines = e; duties = i; services = services; periods = periods }))
+    (input_read (with_engines e (duties_from 2 (lines_of b))))
 finished b services periods e i at r h =
     let whole : duties_from 2 (lines_of b) ≡ answer r.read =
     sym r.left ∙ rw (drop_of_length-le b h, lines_none, duties_none (i + 2), append-nil) in

@@ -13,13 +13,13 @@ use Rattle.laws.specs.Choice.{pick}
 use Rattle.laws.proofs.Cases.{and_right}
 use Rattle.laws.proofs.Lists.{length-tab, get_or-tab, tab_ext, tab-get_or, tab-take}
 use Rattle.paper.specs.declared.Duty.{Duty}
-use Rattle.paper.specs.declared.InputRead.{InputRead}
-use Rattle.paper.specs.Outcome.{Outcome, refused, answer, and_then, verdict_as}
+use Rattle.paper.specs.declared.Input.{Input}
+use Rattle.paper.specs.Outcome.{Outcome, refused, answer, and_then}
 use Rattle.paper.specs.Wanted.{Wanted, wanted_of}
 use Rattle.paper.specs.Limits.{most_duties, most_input}
 use Rattle.paper.specs.Text.{Lines, none, line, lines_of, duty_line_good, duty_read, duties_from, engine_line_good, engines_read}
 use Rattle.paper.specs.Text.{input_of, input}
-use Rattle.paper.specs.Text.{roomy, input_read}
+use Rattle.paper.specs.Text.{roomy, input_for, input_read}
 use Rattle.paper.proofs.Outcomes.{answered, answer_one, then_answer, past}
 use Rattle.plan_input.proofs.Lines.{duties_first, duties_none, input_is}
 use Rattle.plan_input.specs.AsWanted.{with_engines, wanted_in, HasRoom}
@@ -69,18 +69,18 @@ roomy-back l n e h =
     ∙ rw (← e) (tab-get_or l 0)
 
 -- no more duties are read than there is room for
-pub read-room : (b : List ℕ) {r : InputRead} → r ≡ input_read (input b) → HasRoom r.input
-read-room b {r} e = rw e (go (input b) refl)
+pub read-room : (b : List ℕ) {i : Input} → answer i ≡ input_read (input b) → HasRoom i
+read-room b {i} e = go (input b) refl e
   where
-    go : (o : Outcome Wanted) → input b ≡ o → HasRoom (input_read o).input
-    go (refused n p) q = (omega arith, omega arith)
-    go (answer x) q =
+    go : (o : Outcome Wanted) → input b ≡ o → answer i ≡ input_read o → HasRoom i
+    go (refused n p) q h = answered i n p h
+    go (answer x) q h =
         let few = (input_few b x q).few in
-        (rw length-tab few, rw length-tab few)
+        rw (answer_one i (input_for x) h) (rw length-tab few, rw length-tab few)
 
 -- what an answer tells of the bytes
-abbrev pub told : InputRead → Outcome Wanted
-told r = verdict_as r.verdict (wanted_in r.input)
+abbrev pub told : Outcome Input → Outcome Wanted
+told o = and_then o (λ i. answer (wanted_in i))
 
 -- it is what they mean
 pub read_told : (b : List ℕ) → told (input_read (input b)) ≡ input b

@@ -3,36 +3,18 @@
 #![tactic(auto)]
 
 ghost use Rattle.std.specs.Prelude.{◌≡◌};
-ghost use Rattle.paper.specs.Outcome.{refused};
+ghost use Rattle.paper.specs.Outcome.{outcome_of};
 ghost use Rattle.paper.specs.Text.{lines_of, duties_from, input, input_read};
 ghost use Rattle.plan_input.specs.AsWanted.{with_engines};
 
 use line_read::{duty_read, engines_read, find, first_line_good, line_good};
 use paper::limits::{MOST_DUTIES, MOST_INPUT};
-use paper::{Input, InputRead, Refusal, Verdict};
-
-// Refusal 9 at a line.
-fn faulty(line: usize) -> InputRead
-    ensures { result ≡ input_read (refused 9 line) }
-{
-    InputRead {
-        verdict: Verdict::Refused(Refusal {
-            number: 9,
-            place: line,
-        }),
-        input: Input {
-            engines: 0,
-            duties: 0,
-            services: [0; MOST_DUTIES],
-            periods: [0; MOST_DUTIES],
-        },
-    }
-}
+use paper::{Input, Refusal};
 
 // The duties of the lines after the first, which named the engines: of each line its end, then what stands before it.
 // Line i + 2 is that of duty i.
-fn read_duties(b: &[u8], engines: u32) -> InputRead
-    ensures { result ≡ input_read (with_engines engines (duties_from 2 (lines_of b.now))) }
+fn read_duties(b: &[u8], engines: u32) -> Result<Input, Refusal>
+    ensures { outcome_of result ≡ input_read (with_engines engines (duties_from 2 (lines_of b.now))) }
 {
     let mut services = [0; MOST_DUTIES];
     let mut periods = [0; MOST_DUTIES];
@@ -42,7 +24,7 @@ fn read_duties(b: &[u8], engines: u32) -> InputRead
         let rest = &b[at..];
         let end = find(rest, b'\n');
         if !line_good(rest, end, i) {
-            return faulty(i + 2);
+            return Err(Refusal::Input(i + 2));
         }
         let x = duty_read(&rest[..end]);
         services[i] = x.service;
@@ -51,27 +33,24 @@ fn read_duties(b: &[u8], engines: u32) -> InputRead
         at = at + end + 1;
     }
     let duties = i as u32;
-    InputRead {
-        verdict: Verdict::Done,
-        input: Input {
-            engines,
-            duties,
-            services,
-            periods,
-        },
-    }
+    Ok(Input {
+        engines,
+        duties,
+        services,
+        periods,
+    })
 }
 
 // Reads what the plan program was given: at most 4,096 bytes, the line of the engines, then the lines of the duties.
-pub fn read_input(b: &[u8]) -> InputRead
-    ensures { result ≡ input_read (input b.now) }
+pub fn read_input(b: &[u8]) -> Result<Input, Refusal>
+    ensures { outcome_of result ≡ input_read (input b.now) }
 {
     if b.len() > MOST_INPUT {
-        return faulty(0);
+        return Err(Refusal::Input(0));
     }
     let end = find(b, b'\n');
     if !first_line_good(b, end) {
-        return faulty(1);
+        return Err(Refusal::Input(1));
     }
     let engines = engines_read(&b[..end]);
     read_duties(&b[end + 1..], engines)

@@ -131,7 +131,8 @@ rows_held t m ns k u = sum_to m (λ e. one_if (same (held_in (lay t ns 0 0 0) (r
 
 module _ (t : ℕ) (ns : List ℕ) (h : Each (λ n. n ≤ t) ns) (k : ℕ) (l : k < length ns) where
   -- duty k holds a unit of a row where its stretch has the unit's place
-  pub laid_at_lem : (e u : ℕ) → u < t → same (held_in (lay t ns 0 0 0) (row e) u) (Some k) ≡ spans (start_of ns k) (get_or ns k 0) (e * t + u)
+  pub laid_at_lem : (e u : ℕ) → u < t → same (held_in (lay t ns 0 0 0) (row e) u) (Some k)
+      ≡ spans (start_of ns k) (get_or ns k 0) (e * t + u)
   laid_at_lem e u a =
       rw (line t ns 0 0 0 e u (omega arith) a h, zero-mul t)
       (rw (zero-add k, zero-add (start_of ns k)) at (line_at ns 0 0 (e * t + u) k l))

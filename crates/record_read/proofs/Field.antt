@@ -37,7 +37,8 @@ module _ (b f : List ℕ) where
   bytes_number (suc zero) h y z = omega (arith, y 0 (omega arith), z 1 (omega arith), z 2 (omega arith), z 3 (omega arith))
   bytes_number (suc (suc zero)) h y z = omega (arith, y 0 (omega arith), y 1 (omega arith), z 2 (omega arith), z 3 (omega arith))
   bytes_number (suc (suc (suc zero))) h y z = omega (arith, y 0 (omega arith), y 1 (omega arith), y 2 (omega arith), z 3 (omega arith))
-  bytes_number (suc (suc (suc (suc zero)))) h y z = omega (arith, y 0 (omega arith), y 1 (omega arith), y 2 (omega arith), y 3 (omega arith))
+  bytes_number (suc (suc (suc (suc zero)))) h y z =
+      omega (arith, y 0 (omega arith), y 1 (omega arith), y 2 (omega arith), y 3 (omega arith))
   bytes_number (suc (suc (suc (suc (suc n))))) h y z = absurd (omega (arith, h))
 
 pub field_number : (n : ℕ) (b part : List ℕ) (at : ℕ) → n ≤ 4 → length part ≡ n → part ≡ take n (drop at b)

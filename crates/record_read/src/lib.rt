@@ -103,6 +103,7 @@ pub fn read_duty(b: &[u8], at: usize) -> Duty
 }
 
 // The run in the record at an offset.
+#[tactic(auto, unfolding(paper::specs::Bytes::run_in))]
 pub fn read_run(b: &[u8], at: usize) -> Run
     requires { at + run_length small ≤ length b.now }
     ensures { result ≡ run_in small b.now at }

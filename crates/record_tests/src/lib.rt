@@ -4,11 +4,12 @@
 
 ghost use Rattle.std.specs.Prelude.{◌≡◌, ◌+◌, ◌≤◌, MatchOption, IsTrue, length, false, true, ◌&&◌};
 ghost use Rattle.paper.specs.Limits.{most_place, most_ticks, most_engines, most_duties, most_runs, small};
-ghost use Rattle.paper.specs.Bytes.{within, stands, ticks_in, engines_in, duties_in, run_ranged, head_good, duty_good, run_good, end_good, duty_place, run_place};
+ghost use Rattle.paper.specs.Bytes.{within, stands, ticks_in, engines_in, duties_in, run_ranged, duty_place, run_place};
+ghost use Rattle.paper.specs.Bytes.{head_good, duty_good, run_good, end_good};
 ghost use Rattle.record_read.specs.Kinds.{kind_byte, kind_length};
 
-use paper::{Reading, Run};
 use paper::limits::{MOST_DUTIES, MOST_ENGINES};
+use paper::{Reading, Run};
 use record_read::{Head, Kind, duty_place, read_duty, read_field, read_head, read_run, run_place};
 use slices::{duty_in_range, is_within, period_in_range};
 use std::marker::Model;
@@ -98,6 +99,7 @@ impl<'a> Headed<'a> {
             block_length: self.head.block_length,
             engines: self.head.engines,
             duties: self.head.duties,
+            // `as`, since no number is lost (proved): `try_from` would have an error to answer for that never comes.
             runs: runs as u32,
         }
     }

@@ -9,75 +9,70 @@ ghost use Rattle.paper.specs.Limits.{small, head_length, duty_length, run_length
 ghost use Rattle.paper.specs.Bytes.{duty_bytes, run_bytes, end_bytes};
 ghost use Rattle.record_write.specs.Head.{head_of};
 
-use paper::limits::{
-    DUTY_FIELD, DUTY_KIND, END_KIND, FIRST_FIELD, HEAD_KIND, LENGTH_FIELD, RUN_KIND,
-};
+use paper::limits::{DUTY_FIELD, FIRST_FIELD, LENGTH_FIELD};
 use paper::{Duty, Run};
+use record_read::Kind;
 
 // Stores bytes over the front of a lent rest.
+#[tactic(auto, unfolding(laws::specs::Lists::over))]
 pub fn put_bytes(out: &mut [u8], bytes: &[u8])
     requires { length bytes.now ≤ length out.old }
     ensures { out.new ≡ over bytes.now out.old }
 {
-    let mut i = 0;
-    while i < bytes.len() {
-        out[i] = bytes[i];
-        i += 1;
-    }
+    out[..bytes.len()].copy_from_slice(bytes);
 }
 
-// A field: as many bytes of a number as it is wide, over the front of a lent rest.
-fn put_field(out: &mut [u8], width: usize, v: u32)
-    requires { width ≤ length out.old }
-    ensures { out.new ≡ over (digits width v) out.old }
+// A field: the N low bytes of a number, over the front of a lent rest.
+fn put_field<const N: usize>(out: &mut [u8], v: u32)
+    requires short { N ≤ 4 }
+    requires room { N ≤ length out.old }
+    ensures { out.new ≡ over (digits N v) out.old }
 {
-    let mut left = v;
-    let mut i = 0;
-    while i < width {
-        out[i] = (left % 256) as u8;
-        left /= 256;
-        i += 1;
-    }
+    put_bytes(out, &v.to_le_bytes()[..N]);
 }
 
 // The head: block length, engines, duties.
+#[tactic(auto, unfolding(laws::specs::Lists::over, laws::specs::Digits::digits))]
 pub fn put_head(out: &mut [u8], t: u32, engines: u32, duties: u32)
     requires { head_length small ≤ length out.old }
     ensures { out.new ≡ over (head_of t engines duties) out.old }
 {
-    put_field(out, 1, HEAD_KIND as u32);
-    put_field(&mut out[1..], 4, t);
-    put_field(&mut out[5..], 1, engines);
-    put_field(&mut out[6..], DUTY_FIELD, duties);
+    put_field::<1>(out, u32::from(Kind::Head.byte()));
+    put_field::<4>(&mut out[1..], t);
+    put_field::<1>(&mut out[5..], engines);
+    put_field::<DUTY_FIELD>(&mut out[6..], duties);
 }
 
 // A duty: service and period.
+#[tactic(auto, unfolding(laws::specs::Lists::over, laws::specs::Digits::digits, paper::specs::Bytes::duty_bytes))]
 pub fn put_duty(out: &mut [u8], x: Duty)
     requires { duty_length ≤ length out.old }
     ensures { out.new ≡ over (duty_bytes x) out.old }
 {
-    put_field(out, 1, DUTY_KIND as u32);
-    put_field(&mut out[1..], 4, x.service);
-    put_field(&mut out[5..], 4, x.period);
+    put_field::<1>(out, u32::from(Kind::Duty.byte()));
+    put_field::<4>(&mut out[1..], x.service);
+    put_field::<4>(&mut out[5..], x.period);
 }
 
 // A run: row, duty, first unit, length.
+#[tactic(auto, unfolding(laws::specs::Lists::over, laws::specs::Digits::digits, paper::specs::Bytes::run_bytes))]
 pub fn put_run(out: &mut [u8], x: Run)
     requires { run_length small ≤ length out.old }
     ensures { out.new ≡ over (run_bytes small x) out.old }
 {
-    put_field(out, 1, RUN_KIND as u32);
-    put_field(&mut out[1..], 1, x.row.0);
-    put_field(&mut out[2..], DUTY_FIELD, x.duty);
-    put_field(&mut out[FIRST_FIELD..], 4, x.first);
-    put_field(&mut out[LENGTH_FIELD..], 4, x.length);
+    put_field::<1>(out, u32::from(Kind::Run.byte()));
+    put_field::<1>(&mut out[1..], x.row.0);
+    put_field::<DUTY_FIELD>(&mut out[2..], x.duty);
+    put_field::<4>(&mut out[FIRST_FIELD..], x.first);
+    put_field::<4>(&mut out[LENGTH_FIELD..], x.length);
 }
 
 // The end: the number of runs.
+#[tactic(auto, unfolding(laws::specs::Lists::over, laws::specs::Digits::digits, paper::specs::Bytes::end_bytes))]
 pub fn put_end(out: &mut [u8], runs: u32)
     requires { end_length ≤ length out.old }
     ensures { out.new ≡ over (end_bytes runs) out.old }
 {
-    put_field(out, 1, END_KIND as u32);
-    put_field(&mut out[1..], 2, runs);
+    put_field::<1>(out, u32::from(Kind::End.byte()));
+    put_field::<2>(&mut out[1..], runs);
 }

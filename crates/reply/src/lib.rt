@@ -3,29 +3,25 @@
 #![tactic(auto)]
 
 ghost use Rattle.std.specs.Prelude.{◌≡◌};
-ghost use Rattle.paper.specs.Answers.{replied, answer_as};
-ghost use Rattle.record_read.specs.Formed.{table_of};
-ghost use Rattle.table_tally.specs.Ready.{Ready};
+ghost use Rattle.paper.specs.Answers.{replied};
+ghost use Rattle.paper.specs.Outcome.{outcome_of};
 
-use paper::limits::EDGES;
-use paper::{Answer, Engine, Reading, Refusal, Reply};
+use paper::{Engine, Refusal, Reply};
 use rotation::row_in;
+use table_tally::Accepted;
 use unit_holder::held;
 
-// What an engine runs at a tick of a judged table, by the edges of its rows.
-pub fn reply_at(b: &[u8], rd: Reading, edges: &[u32; EDGES], engine: Engine, tick: u64) -> Answer
-    requires { Ready b.now rd edges.now }
-    ensures { answer_as result ≡ replied (table_of b.now rd) engine tick }
+// What an engine runs at a tick of a judged table.
+pub fn reply_at(accepted: &Accepted, engine: Engine, tick: u64) -> Result<Reply, Refusal>
+    ensures { outcome_of result ≡ replied accepted.now engine tick }
 {
-    if rd.engines <= engine.0 {
-        let why = Refusal {
-            number: 18,
-            place: 0,
-        };
-        return Answer::Refused(why);
+    let table = accepted.table();
+    let reading = table.reading();
+    if reading.engines <= engine.0 {
+        return Err(Refusal::NoEngine);
     }
-    let t = rd.block_length as u64;
-    let row = row_in(edges, engine, tick / t);
-    let holder = held(b, rd, row, (tick % t) as u32);
-    Answer::Replies(Reply { held: holder, row })
+    let t = u64::from(reading.block_length);
+    let row = row_in(accepted.edges(), engine, tick / t);
+    let held = held(table, row, (tick % t) as u32);
+    Ok(Reply { held, row })
 }

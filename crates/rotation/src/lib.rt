@@ -9,36 +9,38 @@ ghost use Rattle.walk_laws.proofs.Page.{InChain};
 ghost use Rattle.row_edges.specs.Links.{link_of};
 ghost use Rattle.rotation.specs.Turning.{IsLast, IsTurned, round};
 
-use paper::limits::{EDGES, MOST_ROWS};
+use paper::limits::MOST_ROWS;
 use paper::{Chain, Engine, Row};
-use row_edges::linked;
+use row_edges::{Edges, linked};
 
 // The first row of a row's chain: down along the links.
-fn chain_first(edges: &[u32; EDGES], row: Row) -> Row
+fn chain_first(edges: &Edges, row: Row) -> Row
     requires { row.0 ≤ most_engines }
     ensures { (result.0 ≡ first_of (link_of edges.now) row.0) × (result.0 ≤ row.0) }
 {
-    let mut r = row.0;
-    while 0 < r && linked(edges, Row(r - 1)) {
-        r -= 1;
+    for r in (0..row.0).rev() {
+        if !linked(edges, Row(r)) {
+            return Row(r + 1);
+        }
     }
-    Row(r)
+    Row(0)
 }
 
 // The last row of a row's chain: up along the links. Nothing is chained to the row past the last that there may be.
-fn chain_last(edges: &[u32; EDGES], row: Row) -> Row
+fn chain_last(edges: &Edges, row: Row) -> Row
     requires { row.0 ≤ most_engines }
     ensures { IsLast (link_of edges.now) row.0 result.0 }
 {
-    let mut r = row.0;
-    while r < MOST_ROWS && linked(edges, Row(r)) {
-        r += 1;
+    for r in row.0..MOST_ROWS {
+        if !linked(edges, Row(r)) {
+            return Row(r);
+        }
     }
-    Row(r)
+    Row(MOST_ROWS)
 }
 
 // The chain of a row.
-pub fn chain_of(edges: &[u32; EDGES], row: Row) -> Chain
+pub fn chain_of(edges: &Edges, row: Row) -> Chain
     requires { row.0 ≤ most_engines }
     ensures { InChain (link_of edges.now) row.0 result × (result.first.0 + result.length ≤ most_engines + 1) }
 {
@@ -49,19 +51,19 @@ pub fn chain_of(edges: &[u32; EDGES], row: Row) -> Chain
 }
 
 // A chain in a block: each of its engines is so many places further round it than in block 0.
-#[derive(Clone, Copy)]
+#[derive(Clone, Copy, Debug, PartialEq, Eq)]
 pub struct Turned {
     pub chain: Chain,
     pub places: u32,
 }
 
 // The chain of a row, in a block.
-pub fn turned_at(edges: &[u32; EDGES], row: Row, block: u64) -> Turned
+pub fn turned_at(edges: &Edges, row: Row, block: u64) -> Turned
     requires { row.0 ≤ most_engines }
     ensures { IsTurned (link_of edges.now) block row.0 result }
 {
     let chain = chain_of(edges, row);
-    let places = (block % chain.length as u64) as u32;
+    let places = (block % u64::from(chain.length)) as u32;
     Turned { chain, places }
 }
 
@@ -82,7 +84,7 @@ pub fn row_of(turned: Turned, engine: Engine) -> Row
 }
 
 // The row that an engine runs in a block.
-pub fn row_in(edges: &[u32; EDGES], engine: Engine, block: u64) -> Row
+pub fn row_in(edges: &Edges, engine: Engine, block: u64) -> Row
     requires { engine.0 ≤ most_engines }
     ensures { result ≡ row_at (link_of edges.now) block engine }
 {

@@ -7,17 +7,20 @@ ghost use Rattle.paper.specs.Duties.{same};
 ghost use Rattle.paper.specs.Limits.{most_engines};
 ghost use Rattle.row_edges.specs.Links.{first_edge, last_edge, link_of};
 
+use paper::Row;
 use paper::limits::MOST_ENGINES;
-use paper::{Held, Row};
 
 // All rows that have edges: those that there may be, and one past them, which is idle.
 pub const EDGE_ROWS: usize = MOST_ENGINES + 1;
 
+// What holds an edge: nothing, or a duty by its number, which is one byte as in its record. So all edges are small enough to be handed back.
+pub type Edge = Option<u8>;
+
 // What holds the first and the last unit of a row.
 #[derive(Clone, Copy)]
 pub struct RowEdges {
-    pub first: Held,
-    pub last: Held,
+    pub first: Edge,
+    pub last: Edge,
 }
 
 // The edges of all rows.
@@ -25,14 +28,14 @@ pub type Edges = [RowEdges; EDGE_ROWS];
 
 // Whether one duty holds both, of two edges.
 #[tactic(auto, unfolding(paper::specs::Duties::same))]
-pub fn same_duty(g: Held, h: Held) -> bool
+pub fn same_duty(g: Edge, h: Edge) -> bool
     ensures { result ≡ same g h }
 {
     g.is_some() && g == h
 }
 
 // What holds the first unit of a row.
-pub fn first_edge(edges: &Edges, row: Row) -> Held
+pub fn first_edge(edges: &Edges, row: Row) -> Edge
     requires { row.0 ≤ most_engines }
     ensures { result ≡ first_edge edges.now row.0 }
 {
@@ -40,7 +43,7 @@ pub fn first_edge(edges: &Edges, row: Row) -> Held
 }
 
 // What holds the last unit of a row.
-pub fn last_edge(edges: &Edges, row: Row) -> Held
+pub fn last_edge(edges: &Edges, row: Row) -> Edge
     requires { row.0 ≤ most_engines }
     ensures { result ≡ last_edge edges.now row.0 }
 {

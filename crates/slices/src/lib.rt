@@ -46,6 +46,7 @@ pub fn range_fault(period: u32, d: usize) -> Refusal
 }
 
 // The greatest common divisor, by Euclid's steps.
+#[tactic(auto, using(crate::proofs::Steps::divisor_steps))]
 pub fn gcd_of(a: u32, b: u32) -> u32
     ensures { result ≡ gcd a b }
 {
@@ -60,6 +61,7 @@ pub fn gcd_of(a: u32, b: u32) -> u32
 }
 
 // The greatest block length for a list of periods: their greatest common divisor.
+#[tactic(auto, using(crate::proofs::Steps::divisor_steps))]
 pub fn gcd_of_all(periods: &[u32]) -> u32
     ensures { result ≡ gcd_of periods.now }
 {

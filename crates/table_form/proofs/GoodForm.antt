@@ -14,7 +14,7 @@ use Rattle.paper.specs.Outcome.{refused, answer}
 use Rattle.paper.specs.Bytes.{ticks_in, engines_in, duties_in, head_good, end_good, bad_duty, good_runs, duty_place, run_place, after_runs}
 use Rattle.paper.specs.Bytes.{table_in, read_table}
 use Rattle.table_laws.proofs.Forms.{head_bad, head_good_lem, duty_bad, duties_good, end_bad, more_bytes, all_good}
-use Rattle.table_laws.proofs.Read.{InForm, parsed}
+use Rattle.table_laws.proofs.Read.{InForm, parsed, parse_ranged}
 use Rattle.record_read.specs.Formed.{Formed}
 
 -- bytes that read as the table in them are in good form
@@ -26,19 +26,9 @@ in_form b rd t m d k p =
     record {
       ticks = t;
       engines = m;
-      duties = d;
-      runs = rw d k;
-      ticks_least = rw t F.head.ticks.0;
-      ticks_most = rw t F.head.ticks.1;
-      engines_least = rw m F.head.engines.0;
-      engines_most = rw m F.head.engines.1;
-      duties_least = rw d F.head.duties.0;
-      duties_most = rw d F.head.duties.1;
-      runs_most = rw k F.few;
-      long = rw (d, k) (omega (arith, F.last.0.room, F.no_more));
-      duty_ranged_lem = λ i h. (F.each_duty i (rw d at h)).1;
-      run_ranged_lem = λ j h. rw (t, m, d) (F.each_run j (rw k at h)).1;
       parsed = rw (d, k) p;
+      ranged = rw (d, k) (parse_ranged small b _ p);
+      long = rw (d, k) (omega (arith, F.last.0.room, F.no_more));
     }
 
 -- where a head that is no good is met

@@ -19,7 +19,6 @@ use Rattle.paper.specs.Words.{run, Table, run_at}
 use Rattle.paper.specs.Rules.{units_of}
 use Rattle.paper.specs.Limits.{small, most_duties, most_ticks}
 use Rattle.paper.specs.Statements.{Ranged}
-use Rattle.table_tally.specs.Tally.{units_in}
 
 -- one run's units, and those of the runs after it
 units_step : (x : Run) (xs : List Run) (i : ℕ) → units_of (x ∷ xs) i ≡ pick (eqb x.duty i) x.length 0 + units_of xs i
@@ -97,7 +96,3 @@ units_bound m xs k i h l =
 -- no run of a table in range has more units than a block may have
 pub units_ranged : {t : Table} → Ranged small t → (k : ℕ) → k < length t.runs → (run_at t.runs k).length ≤ most_ticks
 units_ranged F k h = omega (arith, (F.run_ranged_lem k h).inside, F.ticks_most)
-
--- an entry of the table's is what the runs of the duty add up to
-pub units_told : (t : Table) (i : ℕ) → i < most_duties → get_or (units_in t) i 0 ≡ units_of t.runs i
-units_told t i h = get_or-tab most_duties (λ j. units_of t.runs j) 0 i h

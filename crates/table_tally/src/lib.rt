@@ -2,20 +2,20 @@
 // rotation. And a table that meets the rules, with its rows' edges, as those who ask on take it.
 #![tactic(auto)]
 
-ghost use Rattle.std.specs.Prelude.{◌≡◌, ◌≤◌, Some};
+ghost use Rattle.std.specs.Prelude.{◌≡◌, ◌≤◌, ◌<◌, Some};
 ghost use Rattle.laws.specs.Choice.{pick};
 ghost use Rattle.paper.specs.Words.{stop, covers};
-ghost use Rattle.paper.specs.Limits.{small, most_ticks};
+ghost use Rattle.paper.specs.Limits.{small, most_ticks, most_duties};
 ghost use Rattle.paper.specs.Rotation.{first_of, link};
 ghost use Rattle.paper.specs.Statements.{Ranged, Meets};
 ghost use Rattle.row_edges.specs.Links.{link_of};
 ghost use Rattle.table_tally.specs.Tally.{units_in, edges_of};
 ghost use Rattle.table_tally.specs.Ready.{Ready};
 
+use paper::Run;
 use paper::limits::MOST_DUTIES;
-use paper::{Held, Run};
 use record_read::{TableBytes, run_covers};
-use row_edges::{EDGE_ROWS, Edges, RowEdges};
+use row_edges::{EDGE_ROWS, Edge, Edges, RowEdges};
 use std::marker::Model;
 
 // What one pass gathers: the units of each duty, and the edges of each row.
@@ -26,12 +26,13 @@ pub struct Gathered {
 }
 
 // What holds a unit of a run's row: the run's duty where the run has the unit, else what held it before.
-fn edge(x: Run, unit: u32, old: Held) -> Held
-    requires { stop x ≤ most_ticks }
+fn edge(x: Run, unit: u32, old: Edge) -> Edge
+    requires { (stop x ≤ most_ticks) × (x.duty < most_duties) }
     ensures { result ≡ pick (covers x x.row unit) (Some x.duty) old }
 {
     if run_covers(x, x.row, unit) {
-        Some(x.duty)
+        // `as`, since no number is lost (proved): `try_from` would have an error to answer for that never comes.
+        Some(x.duty as u8)
     } else {
         old
     }
@@ -44,21 +45,24 @@ pub fn tally(table: &TableBytes) -> Gathered
 {
     let reading = table.reading();
     let last = reading.block_length - 1;
-    let mut units = [0; MOST_DUTIES];
-    let mut edges = [RowEdges {
-        first: None,
-        last: None,
-    }; EDGE_ROWS];
+    let mut gathered = Gathered {
+        units: [0; MOST_DUTIES],
+        edges: [RowEdges {
+            first: None,
+            last: None,
+        }; EDGE_ROWS],
+    };
     for k in (0..reading.runs as usize).rev() {
         let x = table.run(k);
-        units[x.duty as usize] += x.length;
+        gathered.units[x.duty as usize] += x.length;
         let row = x.row.0 as usize;
-        edges[row] = RowEdges {
-            first: edge(x, 0, edges[row].first),
-            last: edge(x, last, edges[row].last),
+        let edges = gathered.edges[row];
+        gathered.edges[row] = RowEdges {
+            first: edge(x, 0, edges.first),
+            last: edge(x, last, edges.last),
         };
     }
-    Gathered { units, edges }
+    gathered
 }
 
 // A table that meets the rules, with the edges of its rows, ready to be asked. A contract sees the table.

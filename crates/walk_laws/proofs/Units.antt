@@ -96,7 +96,8 @@ pub rows_unit : (m : ℕ) (xs : List Run) → RowsApart xs → RowsBelow m xs �
 unfolding on_unit held_in
 rows_unit m [] a below i u = sum_zero m (λ r. one_if (same None (Some i))) (λ r l. rw (idle_same i))
 rows_unit m (x ∷ xs) a below i u =
-    sum_ext m (λ r. one_if (same (held_in (x ∷ xs) (row r) u) (Some i))) (λ r. counts x i r u + one_if (same (held_in xs (row r) u) (Some i)))
+    sum_ext m (λ r. one_if (same (held_in (x ∷ xs) (row r) u) (Some i)))
+    (λ r. counts x i r u + one_if (same (held_in xs (row r) u) (Some i)))
     (λ r l. same_more x xs a i r u)
     ∙ sum_plus m (λ r. counts x i r u) (λ r. one_if (same (held_in xs (row r) u) (Some i)))
     ∙ rw (

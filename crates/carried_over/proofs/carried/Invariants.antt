@@ -1,3 +1,4 @@
+-- The rows that were passed end with a chain, and so many of them carry.
 use Prim.Native.Nat.{◌-◌, ◌≤◌}
 use mathlib.Core.Path.{◌≡◌}
 use Rattle.paper.specs.Rotation.{first_of}

@@ -1,4 +1,3 @@
-use Prim.Native.Nat.{◌-◌, ◌≤◌}
 use mathlib.Core.Path.{◌≡◌}
 use Rattle.paper.specs.Answers.{rows_at}
 use Rattle.row_edges.specs.Links.{link_of}
@@ -7,7 +6,4 @@ use Rattle.dispatch_rows.proofs.rows_at.Given as goal
 
 abbrev pub invariant-loop-i : goal.invariant-loop-i
 invariant-loop-i l =
-    (l.i ≤ l.engines) × AtHand (link_of l.edges) l.block l.i l.turned × (l.rows ≡ rows_at (link_of l.edges) l.i l.block)
-
-abbrev pub decreases-loop-i : goal.decreases-loop-i
-decreases-loop-i l = l.engines - l.i
+    AtHand (link_of l.edges) l.block l.i l.turned × (l.rows ≡ rows_at (link_of l.edges) l.i l.block)

@@ -1,7 +1,7 @@
 -- `lowest_twice`: each run is looked at with its duty's earlier runs, and as long as none breaks the rule it is put among them
 -- (`sorted_more`).
 use Rattle.std.proofs.Common.{◌≤◌, length, arith, sym, ◌∙◌}
-use Rattle.laws.proofs.Search.{seek_none, seek_more, seek_hit, first_none}
+use Rattle.laws.proofs.Search.{seek_more, seek_hit, first_none}
 use Rattle.laws.proofs.SortedLists.{sorted_more, recent_more}
 use Rattle.paper.specs.Words.{Table}
 use Rattle.paper.specs.Limits.{small}
@@ -14,9 +14,6 @@ use Rattle.judge_twice.proofs.lowest_twice.Goals as goal
 -- where 14 is met, what 16 finds
 rowed : {t : Table} → Ranged small t → length t.runs ≤ lowest overlaps t.runs → Rowed t.runs
 rowed {t} R h = record { apart = found_apart t.runs h; long = λ k l. (R.run_ranged_lem k l).some_units }
-
-pub loop-k-init : goal.loop-k-init
-loop-k-init c = record { search = seek_none _ _; listed = c.new-lists.ensures _ c.reading-runs.ensures.ranged }
 
 pub is_twice-requires : goal.is_twice-requires
 is_twice-requires c = (

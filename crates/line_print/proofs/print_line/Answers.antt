@@ -3,13 +3,12 @@ use mathlib.Core.Path.{◌≡◌, sym, ap}
 use Prim.Native.Nat.{◌+◌, ◌<◌}
 use mathlib.Core.List.{[], ◌∷◌}
 use native.Mathlib.Omega.{arith}
-use lib.ListN.{length, length-set}
+use lib.ListN.{length}
 use Rattle.laws.specs.Lists.{flat}
 use Rattle.laws.proofs.Writing.{more, stored, moved, done, length-lent}
 use Rattle.paper.specs.Text.{print_line}
 use Rattle.number_print.specs.Spaced.{spaced}
 use Rattle.line_print.proofs.Line.{word_written, line-length, line-room}
-use borrow.Author.Rules.{rules}
 use Rattle.line_print.proofs.print_line.Goals as goal
 use Rattle.line_print.proofs.print_line.Goals.{After-slice_known-2-1, After-slice_known-3-1, Start}
 
@@ -52,9 +51,6 @@ bounds-out-end c = omega (arith, room (goal.at.bounds-out-end c).After-slice_kno
 
 pub overflow_add-result : goal.overflow_add-result
 overflow_add-result c = omega (arith, room (goal.at.overflow_add-result c).After-slice_known-3-1)
-
-pub shape_of-out : goal.shape_of-out
-shape_of-out c = rw length-set (search rules)
 
 pub returns : goal.returns
 returns c =

@@ -1,35 +1,29 @@
--- `print_numbers`: after i turns the first i numbers are written.
+-- `print_numbers`: after so many turns so many numbers are written.
 use mathlib.Core.Path.{refl}
 use borrow.Author.Rules.{rules}
 use native.Mathlib.Omega.{arith}
 use Rattle.laws.proofs.Writing.{length-lent}
-use Rattle.laws.proofs.Listing.{listing_start, listing_at, listing_room, listing_more, listing_end}
+use Rattle.laws.proofs.Listing.{listing_start, listing_room, listing_more, listing_end}
 use Rattle.number_print.specs.Spaced.{spaced}
 use Rattle.line_print.proofs.print_numbers.Goals as goal
-use Rattle.line_print.proofs.print_numbers.Goals.{In-loop-i}
+use Rattle.line_print.proofs.print_numbers.Goals.{In-loop-n}
 
-pub loop-i-init : goal.loop-i-init
-loop-i-init c = listing_start spaced _ _
-
-pub slice_bounds-print_number-count : goal.slice_bounds-print_number-count
-slice_bounds-print_number-count c = omega (arith, listing_at c.loop-i.invariant)
-
-pub slice_bounds-print_number-start : goal.slice_bounds-print_number-start
-slice_bounds-print_number-start c = slice_bounds-print_number-count (goal.at.slice_bounds-print_number-start c).In-loop-i
+pub loop-n-init : goal.loop-n-init
+loop-n-init c = listing_start spaced _ _
 
 pub print_number-at-requires : goal.print_number-at-requires
-print_number-at-requires c = rw length-lent (omega (arith, listing_room 0 _ refl c.loop-i.invariant (search rules)))
+print_number-at-requires c = rw length-lent (omega (arith, listing_room 0 _ refl c.loop-n.invariant (search rules)))
 
 pub overflow_add-at : goal.overflow_add-at
 overflow_add-at c =
-    let loop = c.loop-i in
+    let loop = c.loop-n in
     omega (arith, listing_room 0 _ refl loop.invariant (search rules))
 
-pub loop-i-preserved : goal.loop-i-preserved
-loop-i-preserved c =
+pub loop-n-preserved : goal.loop-n-preserved
+loop-n-preserved c =
     let put = c.print_number-at in
-    let loop = c.loop-i in
+    let loop = c.loop-n in
     listing_more 0 _ _ _ refl loop.invariant (search rules) put.ensures.0 put.ensures.1 (search rules)
 
 pub returns : goal.returns
-returns c = listing_end c.loop-i.invariant (search rules)
+returns c = listing_end c.loop-n.invariant (search rules)

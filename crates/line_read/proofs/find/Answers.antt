@@ -1,17 +1,23 @@
--- `find`: every place that was passed holds another byte.
+-- `find`: the place that the library finds, or the length.
+use Prim.Native.Nat.{ℕ}
+use lib.ListN.{length}
+use mathlib.Core.Path.{ap}
+use Rattle.std.proofs.Common.{Option}
+use Rattle.std.specs.Option.{unwrap_or}
+use mathlib.Core.Path.{◌≡◌, ◌∙◌}
+use lib.Dec.{eqb}
+use Rattle.std.specs.List.{position}
 use borrow.Author.Rules.{rules}
-use borrow.Author.Tests.{eq-eqb, ne_eqb}
-use Rattle.laws.proofs.Search.{seek_none, seek_more, seek_hit, seek_miss}
+use borrow.Author.Tests.{tests}
+use Rattle.std.proofs.lemmas.Iterator.{YieldsList-from_slice}
+use Rattle.std.proofs.lemmas.Iterator.Search.{position_from_yields_List}
+use Rattle.line_read.proofs.First.{place_or_length}
 use Rattle.line_read.proofs.find.Goals as goal
 
-pub loop-i-init : goal.loop-i-init
-loop-i-init c = seek_none _ _
-
-pub returns-then-b-i : goal.returns-then-b-i
-returns-then-b-i c = record { value = seek_hit c.loop-i.invariant (search rules) (eq-eqb _ _ c.if-b-i.true); upper_bound = search rules }
-
-pub loop-i-preserved : goal.loop-i-preserved
-loop-i-preserved c = seek_more c.loop-i.invariant (search rules) (ne_eqb _ _ c.if-b-i.false)
-
-pub returns : goal.returns
-returns c = record { value = seek_miss c.loop-i.invariant (search rules); upper_bound = search rules }
+pub returns-clause-value : goal.returns-clause-value
+returns-clause-value c =
+    let b = c.args.b.now in
+    let found : c.position.result ≡ position (λ y. eqb y c.args.x) b =
+    position_from_yields_List (λ y. eqb y c.args.x) _ _ _ c.position.ensures.ran (YieldsList-from_slice b cc)
+    (λ x b q k. search (rules, tests)) in
+    c.unwrap_or.ensures ∙ ap (λ (p : Option ℕ). unwrap_or p (length b)) found ∙ place_or_length c.args.x b

@@ -13,8 +13,5 @@ loop-k-preserved c =
     let storing = c.loop-k.invariant.2 in
     (search rules, simp length-set (search rules), storing_more _ _ _ _ _ storing (search rules) (search rules))
 
-pub shape_of-out : goal.shape_of-out
-shape_of-out c = simp length-set (search rules)
-
 pub returns : goal.returns
 returns c = (search rules, storing_end _ _ _ _ _ c.loop-k.invariant.2 (search rules) (search rules))

@@ -6,6 +6,3 @@ use Rattle.number_print.proofs.print_number.Given as goal
 
 abbrev pub invariant-loop-k : goal.invariant-loop-k
 invariant-loop-k l = (l.k ≤ l.count) × (length l.out ≡ length l.initial.out) × Storing l.n l.initial.out l.out l.k l.left
-
-abbrev pub decreases-loop-k : goal.decreases-loop-k
-decreases-loop-k l = l.k

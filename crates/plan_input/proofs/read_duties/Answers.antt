@@ -4,7 +4,6 @@ use mathlib.Core.Path.{◌≡◌, sym, ◌∙◌}
 use mathlib.Core.Bool.{true}
 use native.Mathlib.Omega.{arith}
 use borrow.Author.Rules.{rules}
-use lib.Seq.{length-take-le}
 use Rattle.laws.proofs.Writing.{lent-rest}
 use Rattle.line_read.specs.Line.{line_good}
 use Rattle.plan_input.proofs.LinesRead.{none_read, one_more, rest, Ahead, ahead, broken, finished}
@@ -33,21 +32,8 @@ returns-then-not-line_good c =
     let b = c.args.b.now in
     let loop = c.loop-at in
     let bad = sym c.line_good.ensures ∙ c.if-not-line_good.true in
-    c.faulty.ensures
-    ∙ broken b loop.services loop.periods c.args.engines loop.i loop.at (rest b loop.at) c.find-end.result
+    broken b loop.services loop.periods c.args.engines loop.i loop.at (rest b loop.at) c.find-end.result
     loop.invariant.2 (lent-rest loop.at b) c.find-end.ensures.value (search rules) bad
-
-pub slice_bounds-duty_read-end : goal.slice_bounds-duty_read-end
-slice_bounds-duty_read-end c = sym (length-take-le _ _ (search rules))
-
-pub duty_read-x-requires : goal.duty_read-x-requires
-duty_read-x-requires c = (next (goal.at.duty_read-x-requires c).Else-not-line_good).0
-
-pub bounds-services-i : goal.bounds-services-i
-bounds-services-i c = (next (goal.at.bounds-services-i c).Else-not-line_good).1
-
-pub loop-at-smaller : goal.loop-at-smaller
-loop-at-smaller c = (next (goal.at.loop-at-smaller c).Else-not-line_good).3
 
 pub loop-at-preserved : goal.loop-at-preserved
 loop-at-preserved c =

@@ -3,7 +3,6 @@ use mathlib.Core.Path.{◌≡◌, sym, ap, ◌∙◌}
 use mathlib.Core.Bool.{true, false}
 use Prim.Native.Nat.{◌+◌}
 use borrow.Author.Rules.{rules}
-use lib.Seq.{length-take-le}
 use Rattle.laws.proofs.Writing.{lent-rest}
 use Rattle.paper.specs.Text.{input_read}
 use Rattle.line_read.specs.Line.{first_good}
@@ -19,22 +18,13 @@ parts : (c : Else-not-first_line_good) → FirstParts c.args.b.now c.find-end.re
 parts c = first-parts c.args.b.now c.find-end.result (good c)
 
 pub returns-then-b-gt-MOST_INPUT : goal.returns-then-b-gt-MOST_INPUT
-returns-then-b-gt-MOST_INPUT c = c.faulty.ensures ∙ ap input_read (sym (input_long c.args.b.now (search rules)))
+returns-then-b-gt-MOST_INPUT c = ap input_read (sym (input_long c.args.b.now (search rules)))
 
 pub returns-then-not-first_line_good : goal.returns-then-not-first_line_good
 returns-then-not-first_line_good c =
     let bad = sym c.first_line_good.ensures ∙ c.if-not-first_line_good.true in
     let first = input-line c.args.b.now c.find-end.result false (search rules) c.find-end.ensures.value bad in
-    c.faulty-then-not-first_line_good.ensures ∙ ap input_read (sym first)
-
-pub slice_bounds-engines_read-end : goal.slice_bounds-engines_read-end
-slice_bounds-engines_read-end c = sym (length-take-le _ _ (search rules))
-
-pub engines_read-engines-requires : goal.engines_read-engines-requires
-engines_read-engines-requires c = (parts (goal.at.engines_read-engines-requires c).Else-not-first_line_good).1
-
-pub slice_bounds-read_duties-count : goal.slice_bounds-read_duties-count
-slice_bounds-read_duties-count c = (parts (goal.at.slice_bounds-read_duties-count c).Else-not-first_line_good).0
+    ap input_read (sym first)
 
 pub returns : goal.returns
 returns c =

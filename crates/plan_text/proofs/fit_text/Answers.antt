@@ -1,26 +1,18 @@
 -- `fit_text`: the text is made apart; of a buffer with room for it, it then covers the front.
 use mathlib.Core.Path.{sym, ap, ◌∙◌}
-use Prim.Native.Nat.{ℕ}
-use mathlib.Core.List.{List}
 use native.Mathlib.Omega.{arith}
 use lib.ListN.{length}
 use Rattle.laws.specs.Lists.{over}
-use Rattle.paper.specs.declared.Reading.{Reading}
 use Rattle.paper.specs.Text.{plan_text}
 use Rattle.paper.proofs.Outcomes.{writes_refused, writes_length}
-use Rattle.record_read.specs.Formed.{table_of}
 use Rattle.plan_text.proofs.Fitting.{fitted_short, fitted-room, front_is}
 use borrow.Author.Rules.{rules}
 use Rattle.plan_text.proofs.fit_text.Goals as goal
 
--- what is to be printed
-abbrev text : List ℕ → Reading → List ℕ
-text b rd = plan_text (table_of b rd)
-
 pub returns-then-out-n : goal.returns-then-out-n
 returns-then-out-n c =
     let put = c.print_text-n in
-    let short = fitted_short _ put.result (text c.args.b.now c.args.rd) put.ensures.puts.0 (search rules) in
+    let short = fitted_short _ put.result (plan_text c.args.accepted.now) put.ensures.puts.0 (search rules) in
     writes_refused _ c.args.out.now short
 
 pub slice_bounds-put_bytes-end : goal.slice_bounds-put_bytes-end
@@ -36,7 +28,7 @@ put_bytes-requires c =
 pub returns : goal.returns
 returns c =
     let l = c.args.out.now in
-    let w = text c.args.b.now c.args.rd in
+    let w = plan_text c.args.accepted.now in
     let put = c.print_text-n in
     let puts = put.ensures.puts in
     let room = fitted-room (length l) put.result w puts.0 (search rules) in

@@ -1,28 +1,36 @@
 -- `reply_at`: the row of the tick's block, and what holds the tick's unit on it.
-use Prim.Native.Nat.{ℕ, ◌%◌, ◌≤◌}
-use mathlib.Core.Path.{sym}
+use Prim.Native.Nat.{ℕ, ◌%◌, ◌≤◌, ◌<◌}
+use mathlib.Core.Path.{◌≡◌, refl, ap, ◌∙◌}
 use native.Mathlib.Nat.{mod-lt}
 use native.Mathlib.Omega.{arith}
-use mir.Syntax.{w32}
-use mir.Val.{Fits}
-use borrow.Author.Rules.{rules}
+use Rattle.std.proofs.Common.{Fits, w32}
 use Rattle.paper.specs.Limits.{most_ticks}
-use Rattle.reply.proofs.Replying.{reply_none, reply_is}
+use Rattle.paper.specs.Words.{Table}
+use Rattle.reply.proofs.Replying.{reply_is}
 use Rattle.reply.proofs.reply_at.Goals as goal
+use Rattle.reply.proofs.reply_at.Goals.{After-from-t}
 
 -- a unit of a block fits 32 bits, whatever the tick
 unit-fits : (k t : ℕ) → 1 ≤ t → t ≤ most_ticks → Fits w32 (k % t)
 unit-fits k t l m = omega (arith, mod-lt k {m = t} l)
 
-pub returns-then-rd-engine : goal.returns-then-rd-engine
-returns-then-rd-engine c =
-    sym (reply_none c.requires c.args.engine c.args.tick (search rules))
+-- the reading's block length is the table's
+ticks-are : (c : After-from-t) → c.from-t.result ≡ c.args.accepted.now.ticks
+ticks-are c =
+    c.from-t.ensures ∙ ap (λ r. r.block_length) c.reading-reading.ensures.told ∙ ap (λ (t : Table). t.ticks) c.table-table.ensures.same
 
 pub overflow_cast-tick : goal.overflow_cast-tick
 overflow_cast-tick c =
-    let F = c.requires.formed in
-    unit-fits _ _ F.ticks_least F.ticks_most
+    let ticks = ticks-are (goal.at.overflow_cast-tick c).After-from-t in
+    let ranged = c.table-table.ensures.ranged in
+    unit-fits _ _ (omega (arith, ticks, ranged.ticks_least)) (omega (arith, ticks, ranged.ticks_most))
 
 pub returns : goal.returns
 returns c =
-    reply_is c.requires c.args.engine c.args.tick (search rules) c.row_in-row.ensures c.held-holder.ensures
+    let t = c.args.accepted.now in
+    let ticks = ticks-are (goal.at.returns c).After-from-t in
+    let engines : c.reading-reading.result.engines ≡ t.engines =
+    ap (λ r. r.engines) c.reading-reading.ensures.told ∙ ap (λ (x : Table). x.engines) c.table-table.ensures.same in
+    let below : c.args.engine.0 < t.engines = omega arith in
+    reply_is t c.args.engine c.args.tick below (c.row_in-row.ensures ∙ rw (c.edges.ensures.links, ticks) refl)
+    (c.held-held.ensures ∙ rw (ticks, c.table-table.ensures.same) refl)

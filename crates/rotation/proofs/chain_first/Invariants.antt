@@ -8,6 +8,3 @@ use Rattle.rotation.proofs.chain_first.Given as goal
 abbrev pub invariant-loop-r : goal.invariant-loop-r
 invariant-loop-r l =
     (l.r ≤ l.initial.r) × (l.initial.r ≤ most_engines) × (first_of (link_of l.edges) l.r ≡ first_of (link_of l.edges) l.initial.r)
-
-abbrev pub decreases-loop-r : goal.decreases-loop-r
-decreases-loop-r l = l.r

@@ -1,4 +1,4 @@
-use Prim.Native.Nat.{◌-◌, ◌≤◌}
+use Prim.Native.Nat.{◌≤◌}
 use mathlib.Core.Path.{◌≡◌}
 use Rattle.paper.specs.Limits.{most_engines}
 use Rattle.paper.specs.Rotation.{first_of}
@@ -7,6 +7,3 @@ use Rattle.rotation.proofs.chain_last.Given as goal
 
 abbrev pub invariant-loop-r : goal.invariant-loop-r
 invariant-loop-r l = (l.initial.r ≤ l.r) × (l.r ≤ most_engines) × (first_of (link_of l.edges) l.r ≡ first_of (link_of l.edges) l.initial.r)
-
-abbrev pub decreases-loop-r : goal.decreases-loop-r
-decreases-loop-r l = most_engines - l.r

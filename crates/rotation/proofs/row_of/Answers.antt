@@ -7,13 +7,5 @@ use Rattle.paper.specs.Words.{row}
 use borrow.Author.Rules.{rules}
 use Rattle.rotation.proofs.row_of.Goals as goal
 
--- once round
-once-round : (n m : ℕ) → m ≤ n → n - m < m → n % m ≡ n - m
-once-round n m h l = let z : n ≡ m + (n - m) = omega arith in ap (λ k. k % m) z ∙ add-mod_left m (n - m) ∙ mod-eq_of_lt l
-
 pub returns-then-on-length : goal.returns-then-on-length
 returns-then-on-length c = ap row (ap (λ n. c.args.turned.chain.first.0 + n) (sym (mod-eq_of_lt (search rules))))
-
-pub returns : goal.returns
-returns c = ap row
-    (ap (λ n. c.args.turned.chain.first.0 + n) (sym (once-round _ _ (search rules) (omega arith))))

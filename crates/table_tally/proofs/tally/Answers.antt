@@ -14,8 +14,8 @@ loop-k-init c =
     record { units = units_none runs _ (omega arith); edges = edges_none runs _ _ (omega arith) }
 
 -- a sum of units stays small
-pub overflow_add-units : goal.overflow_add-units
-overflow_add-units c =
+pub overflow_add-gathered : goal.overflow_add-gathered
+overflow_add-gathered c =
     let ranged = c.reading-reading.ensures.ranged in
     let few = units_bound most_ticks c.args.table.now.runs c.loop-k.k c.run-x.result.duty (units_ranged ranged) (omega (arith, ranged)) in
     omega (arith, rw (← c.loop-k.invariant.units) at few, ranged, c.run-x.ensures.ranged)

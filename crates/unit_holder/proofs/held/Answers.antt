@@ -1,22 +1,15 @@
 -- `held`: by the run that was found.
-use mathlib.Core.Path.{sym, ap, ◌∙◌}
-use borrow.Author.Rules.{rules}
+use mathlib.Core.Path.{refl, sym, ap, ◌∙◌}
+use native.Mathlib.Omega.{arith}
+use Rattle.std.specs.Prelude.{Some}
 use Rattle.paper.specs.declared.Run.{Run}
-use Rattle.paper.specs.declared.Held.TheVariants.{By}
-use Rattle.record_read.specs.Formed.{table_of}
-use Rattle.record_read.proofs.Table.{table_runs}
 use Rattle.unit_holder.proofs.Finding.{held_found, held_not_found}
 use Rattle.unit_holder.proofs.held.Goals as goal
 
-pub returns-then-k-rd : goal.returns-then-k-rd
-returns-then-k-rd c =
-    let find-run = c.find_run-k in
-    ap (λ (x : Run). By x.duty) c.run_of-x.ensures.0 ∙ sym
-    (held_found (table_of c.args.b.now c.args.rd).runs _ _ c.args.rd.runs find-run.result
-    (sym (table_runs _ c.args.rd)) find-run.ensures (search rules))
+pub returns-then-k-reading : goal.returns-then-k-reading
+returns-then-k-reading c =
+    ap (λ (x : Run). Some x.duty) c.run.ensures.told
+    ∙ sym (held_found c.args.table.now.runs _ _ _ c.find_run-k.result refl c.find_run-k.ensures (omega arith))
 
-pub returns-else-k-rd : goal.returns-else-k-rd
-returns-else-k-rd c =
-    let find-run = c.find_run-k in
-    sym (held_not_found (table_of c.args.b.now c.args.rd).runs _ _ c.args.rd.runs find-run.result
-    (sym (table_runs _ c.args.rd)) find-run.ensures (search rules))
+pub returns-else-k-reading : goal.returns-else-k-reading
+returns-else-k-reading c = sym (held_not_found c.args.table.now.runs _ _ _ c.find_run-k.result refl c.find_run-k.ensures (omega arith))

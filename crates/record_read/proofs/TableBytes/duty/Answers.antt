@@ -2,15 +2,14 @@
 use mathlib.Core.Path.{ap, ◌∙◌}
 use native.Mathlib.Omega.{arith}
 use Rattle.paper.specs.Bytes.{duty_in}
-use Rattle.record_read.proofs.Table.{duty_counted, seen_duty, seen_ranged}
+use Rattle.record_read.proofs.Table.{duties_seen, seen_duty, seen_ranged}
 use Rattle.record_read.proofs.TableBytes.duty.Goals as goal
 
 pub duty_place-requires : goal.duty_place-requires
-duty_place-requires c = omega (arith, duty_counted c.self.invariant c.self.view_is _ c.requires, c.self.invariant.duties_most)
+duty_place-requires c = omega (arith, seen_ranged c.self.invariant c.self.view_is)
 
 pub read_duty-requires : goal.read_duty-requires
-read_duty-requires c =
-    omega (arith, duty_counted c.self.invariant c.self.view_is _ c.requires, c.self.invariant.long, c.duty_place.ensures)
+read_duty-requires c = omega (arith, duties_seen c.self.invariant c.self.view_is, c.self.invariant.long)
 
 pub returns-clause-told : goal.returns-clause-told
 returns-clause-told c =

@@ -3,17 +3,14 @@ use mathlib.Core.Path.{ap, ◌∙◌}
 use native.Mathlib.Omega.{arith}
 use Rattle.paper.specs.Bytes.{run_in}
 use Rattle.paper.specs.Limits.{small}
-use Rattle.record_read.proofs.Table.{run_counted, seen_run, seen_ranged}
+use Rattle.record_read.proofs.Table.{duties_seen, runs_seen, seen_run, seen_ranged}
 use Rattle.record_read.proofs.TableBytes.run.Goals as goal
 
 pub run_place-requires : goal.run_place-requires
-run_place-requires c =
-    let within = run_counted c.self.invariant c.self.view_is _ c.requires in
-    omega (arith, within, c.self.invariant.duties_most, c.self.invariant.runs_most)
+run_place-requires c = omega (arith, seen_ranged c.self.invariant c.self.view_is, duties_seen c.self.invariant c.self.view_is)
 
 pub read_run-requires : goal.read_run-requires
-read_run-requires c =
-    omega (arith, run_counted c.self.invariant c.self.view_is _ c.requires, c.self.invariant.long, c.run_place.ensures)
+read_run-requires c = omega (arith, runs_seen c.self.invariant c.self.view_is, c.self.invariant.long)
 
 pub returns-clause-told : goal.returns-clause-told
 returns-clause-told c =
