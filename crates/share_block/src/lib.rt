@@ -52,9 +52,8 @@ pub struct Shared {
     pub short: bool,
 }
 
-// How the duties go on: whose blocks are shared out, the block that is next, the sum of the needs' whole units before it, and what the lists
-// hold. The lists are lent, so that nothing is copied; and what goes over the duties is compiled where it is called, so that a pass whose
-// units nobody reads does not write them.
+// How the duties go on: whose blocks are shared out, the block that is next, the sum of the needs' whole units before it, and what the
+// lists hold. The lists are lent, so that nothing is copied.
 #[derive(Drop)]
 pub struct Paces<'a> {
     sharing: &'a Sharing<'a>,
@@ -75,7 +74,6 @@ impl<'a> Model for Paces<'a> {
 
 impl<'a> Paces<'a> {
     // Before the first block, where each need is the share itself.
-    #[inline(always)]
     pub fn begin(sharing: &'a Sharing<'a>, lists: &'a mut Lists) -> Paces<'a>
         ensures paced { result ≡ pace sharing.now 0 }
         ensures shareable { Shareable sharing.now }
@@ -117,7 +115,6 @@ impl<'a> Paces<'a> {
     }
 
     // Step 2: the cut, before which the duties that want one of the free units are chosen. It is where so many have wanted one.
-    #[inline(always)]
     fn find_cut(&self, free: u32) -> u32
         requires { free ≡ free_at self.now.sharing self.now.block }
         ensures { (result ≡ cut_at self.now.sharing self.now.block) × (result ≤ most_duties) }
@@ -140,9 +137,8 @@ impl<'a> Paces<'a> {
         duties as u32
     }
 
-    // The duties' turns in the next block, by its cut: what each duty gets goes to `units`, and the needs move on. The answer is whether some
-    // duty would get -1 units.
-    #[inline(always)]
+    // The duties' turns in the next block, by its cut: what each duty gets goes to `units`, and the needs move on. The answer is whether
+    // some duty would get -1 units.
     pub fn share_by_cut(&mut self, cut: u32, units: &mut [u32]) -> bool
         requires block_most { self.old.block < u32.MAX }
         requires room { duty_count self.old.sharing ≤ length units.old }
@@ -178,7 +174,8 @@ impl<'a> Paces<'a> {
         lacking
     }
 
-    // The next block: its free units, its cut, and the duties' turns.
+    // The next block: its free units, its cut, and the duties' turns. It is compiled where it is called, so that a pass whose units nobody
+    // reads does not write them.
     #[inline(always)]
     pub fn share_block(&mut self, units: &mut [u32]) -> Shared
         requires block_most { self.old.block < u32.MAX }

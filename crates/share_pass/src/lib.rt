@@ -11,7 +11,7 @@ use paper::Refusal;
 use share_block::Paces;
 
 // Shares out the blocks from the next one to before `to`; 23 at the first that comes short. What the last of them gives stays in `units`,
-// and each one's cut in `cuts`.
+// and each one's cut in `cuts`. It is compiled where it is called, as `share_block` is.
 #[inline(always)]
 pub fn pass_blocks(
     paces: &mut Paces,

@@ -8,7 +8,7 @@ ghost use Rattle.share_turn.specs.Taking.{wants_by, chosen_by, next_by};
 
 // An amount of units, for a duty of period D: whole ones, and a part of one in D-ths. A duty's share of a block is one, and its need, whose
 // whole units are raised by 1.
-#[derive(Clone, Copy)]
+#[derive(Clone, Copy, Debug, PartialEq, Eq)]
 pub struct Amount {
     pub whole: u32,
     pub part: u32,
@@ -40,7 +40,7 @@ pub fn is_chosen(t: u32, need: Amount, place: u32, cut: u32) -> bool
 }
 
 // What a duty's turn comes to: the units that it gets, its need before the next block, and whether it would get -1 units.
-#[derive(Clone, Copy)]
+#[derive(Clone, Copy, Debug, PartialEq, Eq)]
 pub struct Turn {
     pub units: u32,
     pub need: Amount,

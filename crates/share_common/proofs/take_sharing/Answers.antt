@@ -46,4 +46,5 @@ pub returns : goal.returns
 returns c =
     let x = want (goal.at.returns c).After-greatest-ticks in
     let common = c.in-Some.ensures in
-    sym (shared_out x _ _ c.in_ok-duties.ensures c.greatest-ticks.ensures _ common.1 common.0 _ c.is_overload.ensures c.if-is_overload.false)
+    let fits = c.if-is_overload.false in
+    sym (shared_out x _ _ c.in_ok-duties.ensures c.greatest-ticks.ensures _ common.1 common.0 _ c.is_overload.ensures fits)

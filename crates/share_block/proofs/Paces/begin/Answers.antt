@@ -1,4 +1,5 @@
--- `Paces::begin`: each duty's share is divided once; the lists are filled duty after duty, and the sum is at most a million and one for each.
+-- `Paces::begin`: each duty's share is divided once; the lists are filled duty after duty, and the sum is at most a million and one for
+-- each.
 use Prim.Native.Nat.{◌<◌}
 use mathlib.Core.Path.{◌≡◌, ap, ◌∙◌}
 use native.Mathlib.Omega.{arith}

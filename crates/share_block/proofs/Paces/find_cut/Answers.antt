@@ -22,7 +22,8 @@ loop-i-preserved c =
     let n = c.duty_count-duties.ensures.value ∙ count c.self.view_is in
     let ticks = c.ticks-ticks.ensures.value ∙ ap (λ (p : Pace). p.sharing.ticks) c.self.view_is in
     let wants = c.from-wanting.ensures ∙ counted _ ∙ ap one_if (rw ticks at c.wants_more.ensures) in
-    cutting_more _ _ c.loop-i.invariant (opened c.self.view_is c.self.invariant).needed c.requires (omega arith) c.if-free-wanting.false wants
+    let needed = (opened c.self.view_is c.self.invariant).needed in
+    cutting_more _ _ c.loop-i.invariant needed c.requires (omega arith) c.if-free-wanting.false wants
 
 pub returns : goal.returns
 returns c =

@@ -1,5 +1,5 @@
--- `Paces::share_by_cut`: each turn is a turn of SA2 (`took`), since the lists hold the duty's share and need and the cut finds who is chosen.
--- The sum stays small: at most T + 2 for each duty.
+-- `Paces::share_by_cut`: each turn is a turn of SA2 (`took`), since the lists hold the duty's share and need and the cut finds who is
+-- chosen. The sum stays small: at most T + 2 for each duty.
 use mathlib.Core.Path.{ap, ◌∙◌}
 use native.Mathlib.Omega.{arith}
 use Rattle.share_block.specs.Paced.{Pace}
