@@ -18,7 +18,8 @@ use record_read::TableBytes;
 // Each duty's runs in a sorted list. All lists stand in one array of pointers: at i that of run i, and behind the runs each duty's front. A
 // pointer is 0 at the end of a list, else the next run's number and 1. A second array has, as a pointer, the last run of each duty: on a
 // row the runs come by first unit, so a search mostly begins right before its end.
-// Numbers of places in an array, and not boxes that own one another: no heap, a fixed memory (docs/PORT.md).
+// Places in an array, and not boxes that own one another, since nothing here takes memory from a heap; and numbers, 0 for none, and not
+// Options, since the theorems on sorted lists (laws, SortedLists), which may not change, are said of such numbers.
 #[derive(Drop)]
 pub struct Lists {
     last: [u16; MOST_DUTIES],
@@ -110,6 +111,7 @@ impl Lists {
         ensures pointers { self.new.pointers ≡ set (set self.old.pointers k (get_or self.old.pointers spot 0)) spot (k + 1) }
     {
         let next = self.pointers[spot];
+        // `as`, since no number is lost (proved): `try_from` would have an error to answer for that never comes.
         let pointer = (k + 1) as u16;
         self.pointers[k] = next;
         self.pointers[spot] = pointer;
