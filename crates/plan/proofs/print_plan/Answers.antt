@@ -1,6 +1,5 @@
 -- `print_plan`: the judge decides what is printed.
-use mathlib.Core.Path.{◌≡◌, sym, ap, ◌∙◌}
-use borrow.Author.Rules.{rules}
+use mathlib.Core.Path.{sym, ap, ◌∙◌}
 use Rattle.paper.specs.Text.{printed}
 use Rattle.table_form.specs.FormAs.{form_as}
 use Rattle.plan.proofs.Printed.{puts_as}

@@ -1,7 +1,6 @@
 -- `print_planned`: what was built is judged and printed, or the refusal is.
 use mathlib.Core.Path.{sym, ap}
 use lib.Seq.{length-take-le}
-use borrow.Author.Rules.{rules}
 use Rattle.paper.specs.Text.{printed}
 use Rattle.plan_input.specs.AsWanted.{wanted_in}
 use Rattle.plan.proofs.Building.{built_bytes, built_refused}
