@@ -10,10 +10,10 @@ ghost use Rattle.paper.specs.Text.{printed, program};
 ghost use Rattle.plan_input.specs.AsWanted.{wanted_in, HasRoom};
 
 use builder::build;
-use judge::{refusal_of, rule_on};
+use judge::rule_on;
 use line_print::print_refused;
-use paper::limits::{EDGES, MOST_INPUT, MOST_TABLE, TEXT_ROOM};
-use paper::{Input, Judged, Verdict, Written};
+use paper::limits::{MOST_INPUT, MOST_TABLE, TEXT_ROOM};
+use paper::{Input, Refusal};
 use plan_input::read_input;
 use plan_text::print_text;
 use std::io;
@@ -24,11 +24,9 @@ fn print_plan(out: &mut [u8], table: &[u8]) -> usize
     requires { text_room ≤ length out.old }
     ensures { Puts (printed (accepted table.now)) out.old out.new result }
 {
-    let mut edges = [0u32; EDGES];
-    let judged = rule_on(table, &mut edges);
-    match judged {
-        Judged::Accepted(rd) => print_text(out, table, rd, &edges),
-        Judged::Bad(fault) => print_refused(out, refusal_of(fault)),
+    match rule_on(table) {
+        Ok(accepted) => print_text(out, &accepted),
+        Err(fault) => print_refused(out, Refusal::Table(fault)),
     }
 }
 
@@ -44,8 +42,8 @@ fn print_planned(out: &mut [u8], given: Input) -> usize
     let periods = given.periods;
     let mut table = [0; MOST_TABLE];
     match build(0, given.engines, &services[..n], &periods[..n], &mut table) {
-        Written::Length(size) => print_plan(out, &table[..size]),
-        Written::Refused(why) => print_refused(out, why),
+        Ok(size) => print_plan(out, &table[..size]),
+        Err(why) => print_refused(out, why),
     }
 }
 
@@ -53,11 +51,9 @@ fn print_planned(out: &mut [u8], given: Input) -> usize
 fn run_plan(input: &[u8], out: &mut [u8; TEXT_ROOM]) -> usize
     ensures { Puts (program input.now) out.old out.new result }
 {
-    let read = read_input(input);
-    let verdict = read.verdict;
-    match verdict {
-        Verdict::Done => print_planned(out, read.input),
-        Verdict::Refused(why) => print_refused(out, why),
+    match read_input(input) {
+        Ok(given) => print_planned(out, given),
+        Err(why) => print_refused(out, why),
     }
 }
 

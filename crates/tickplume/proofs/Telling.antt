@@ -1,33 +1,42 @@
--- How a call of the face comes to what it must leave, where the lent list is long enough: the call behind it refused, by a word that has
--- room for the refusal; or it answered, and the entries were written.
+-- How a call of the face comes to what it must leave: where a lent list is too short it is told so, else what the call behind it came to is
+-- told; and a refusal of that one fits a word.
 -- Assumes nothing.
 use Prim.Native.Nat.{ℕ, ◌+◌, ◌*◌, ◌≤◌, ◌<◌}
-use mathlib.Core.Path.{◌≡◌, refl}
-use mathlib.Core.Bool.{Bool, false}
+use mathlib.Core.Path.{◌≡◌, refl, sym, ap, ◌∙◌}
 use mathlib.Core.List.{List}
 use lib.ListN.{length}
-use borrow.Author.Tests.{le-ltb}
-use Rattle.laws.specs.Choice.{pick}
-use Rattle.laws.specs.Lists.{over}
-use Rattle.paper.specs.Limits.{most_place}
-use Rattle.paper.specs.Outcome.{Outcome, refused, answer}
+use borrow.Author.Tests.{lt-ltb, le-ltb}
+use Rattle.std.specs.Prelude.{Result}
+use Rattle.paper.specs.declared.Refusal.{Refusal}
+use Rattle.paper.specs.Outcome.{Outcome, refused, answer, and_then, outcome_of}
 use Rattle.paper.specs.Face.{Tells, entries, needing}
+use Rattle.paper.proofs.Outcomes.{then_refused}
 use Rattle.plan_laws.proofs.Listed.{Listed}
+use Rattle.face_entries.specs.InWord.{InWord}
 
 -- a refusal that is listed fits a word
-pub listed_fits : {A : Type 0} {P : ℕ → Type 0} {o : Outcome A} → Listed P o → {k p : ℕ} → o ≡ refused k p → (k < 256) × (p ≤ most_place)
-listed_fits l e = let z = l _ _ e in (z.byte, z.place)
+pub in_word : {A : Type 0} {P : ℕ → Type 0} {o : Outcome A} {r : Result A Refusal} → Listed P o → outcome_of r ≡ o → InWord r
+in_word l e x is = (l _ _ (sym e ∙ ap outcome_of is)).place
 
-module _ {A : Type 0} (f : A → List ℕ) {o : Outcome A} (n : ℕ) {lent : List ℕ} (h : n ≤ length lent) where
-  -- the call behind it refused: told by its word, and the lent list stays
-  pub tell_refused : {word k p : ℕ} → o ≡ refused k p → word ≡ k + 256 * p → Tells (needing n lent (entries f o)) word lent lent
-  tell_refused e w = rw (le-ltb (length lent) n h, e) (record { said = w; left = refl })
+-- the lent list is too short
+pub short : {A : Type 0} (n : ℕ) {lent : List ℕ} {word : ℕ} (f : A → List ℕ) (o : Outcome A) → length lent < n → word ≡ 255 + 256 * n
+    → Tells (entries f (needing n lent o)) word lent lent
+short n {lent} f o h w = rw (lt-ltb (length lent) n h) (record { said = w; left = refl })
 
-  -- it answered: told by 0 and the answer's entries over the front
-  pub tell_answer : {a : A} {after : List ℕ} → o ≡ answer a → after ≡ over (f a) lent → Tells (needing n lent (entries f o)) 0 lent after
-  tell_answer e w = rw (le-ltb (length lent) n h, e) (record { said = refl; left = w })
+-- it is long enough
+pub told : (n : ℕ) (lent : List ℕ) {word : ℕ} {after : List ℕ} {o o' : Outcome (List ℕ)} → n ≤ length lent → o ≡ o' → Tells o word lent after
+    → Tells (needing n lent o') word lent after
+told n lent h e t = rw (le-ltb (length lent) n h) (rw e at t)
 
--- where two lists are lent, and the first is long enough
-pub tell_next : (n : ℕ) {b : Bool} {o : Outcome (List ℕ)} {word : ℕ} {before after : List ℕ} → b ≡ false → Tells o word before after
-    → Tells (pick b (refused 255 n) o) word before after
-tell_next n e t = rw e t
+-- ---- of a call that answers something of what it wrote
+
+module _ {A B : Type 0} (f : A → B) (o : Outcome A) where
+  -- it refuses what it wrote is refused with
+  pub listed_of : {P : ℕ → Type 0} → Listed P o → Listed P (and_then o (λ a. answer (f a)))
+  listed_of l n p e = l n p (then_refused o f n p e)
+
+-- and its entries are those of what it wrote
+pub entries_of : {A B : Type 0} (f : A → B) (g : B → List ℕ) (o : Outcome A)
+    → entries g (and_then o (λ a. answer (f a))) ≡ entries (λ a. g (f a)) o
+entries_of f g (refused n p) = refl
+entries_of f g (answer a) = refl

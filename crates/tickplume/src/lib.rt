@@ -4,17 +4,18 @@
 #![tactic(auto)]
 
 ghost use Rattle.std.specs.Prelude.{◌≡◌};
-ghost use Rattle.paper.specs.Outcome.{leaves};
+ghost use Rattle.paper.specs.Outcome.{leaves, outcome_of};
+ghost use Rattle.paper.specs.Rules.{judged};
 ghost use Rattle.paper.specs.Wanted.{wanted};
 ghost use Rattle.paper.specs.Face.{Tells, build_call, build_entries, judge_call, question_call, start_call, row_call, next_call};
 ghost use Rattle.paper.specs.Face.{count_call};
 ghost use Rattle.paper.specs.Face.{shares_call, shares_entries, shares_left, share_at_call};
 
 use asked::Dispatcher;
-use face_entries::{hand_over, put_reading, put_reply, put_share_reading, state_in};
-use face_words::{held_entry, too_short, word_of};
+use face_entries::{hand_over, state_in, tell};
+use face_words::too_short;
 use paper::limits::{READING_ROOM, REPLY_ROOM, SHARE_READING_ROOM, STATE_ROOM, WORD_ROOM};
-use paper::{Answer, Counted, Engine, Judged, RowTold, ShareAnswer, SharesTold, Written};
+use paper::{Engine, Reading, Refusal};
 
 // SA1's plan of the duties, in blocks of the wanted length, into the lent table.
 #[unsafe(no_mangle)]
@@ -36,13 +37,18 @@ pub extern "C" fn tickplume_build(
     if answer.len() < WORD_ROOM {
         return too_short(WORD_ROOM);
     }
-    match builder::build(block_length, engines, services, periods, table) {
-        Written::Refused(why) => word_of(why),
-        Written::Length(length) => {
-            answer[0] = length as u64;
-            0
-        }
-    }
+    tell(
+        builder::build(block_length, engines, services, periods, table),
+        answer,
+    )
+}
+
+// The reading of any bytes, or the fault as a refusal.
+fn judged(table: &[u8]) -> Result<Reading, Refusal>
+    ensures { outcome_of result ≡ judged table.now }
+{
+    let reading = judge::judge(table)?;
+    Ok(reading)
 }
 
 // The reading of any bytes, or the fault.
@@ -53,13 +59,7 @@ pub extern "C" fn tickplume_judge(table: &[u8], answer: &mut [u64]) -> u64
     if answer.len() < READING_ROOM {
         return too_short(READING_ROOM);
     }
-    match judge::judge(table) {
-        Judged::Bad(fault) => word_of(judge::refusal_of(fault)),
-        Judged::Accepted(rd) => {
-            put_reading(answer, rd);
-            0
-        }
-    }
+    tell(judged(table), answer)
 }
 
 // What an engine does at a tick: its row, and the duty or the mark for idle.
@@ -76,13 +76,7 @@ pub extern "C" fn tickplume_question(
     if answer.len() < REPLY_ROOM {
         return too_short(REPLY_ROOM);
     }
-    match asked::question(table, Engine(engine), tick) {
-        Answer::Refused(why) => word_of(why),
-        Answer::Replies(reply) => {
-            put_reply(answer, reply);
-            0
-        }
-    }
+    tell(asked::question(table, Engine(engine), tick), answer)
 }
 
 // The dispatcher's state for a block.
@@ -109,13 +103,7 @@ pub extern "C" fn tickplume_row(table: &[u8], state: &[u64], engine: u32, answer
         return too_short(WORD_ROOM);
     }
     let here = Dispatcher(state_in(state));
-    match here.row(table, Engine(engine)) {
-        RowTold::Refused(why) => word_of(why),
-        RowTold::At(row) => {
-            answer[0] = row.0 as u64;
-            0
-        }
-    }
+    tell(here.row(table, Engine(engine)), answer)
 }
 
 // The state of the next block, in the place of this one.
@@ -138,13 +126,7 @@ pub extern "C" fn tickplume_count(table: &[u8], blocks: u64, answer: &mut [u64])
     if answer.len() < WORD_ROOM {
         return too_short(WORD_ROOM);
     }
-    match asked::count(table, blocks) {
-        Counted::Refused(why) => word_of(why),
-        Counted::Loads(loads) => {
-            answer[0] = loads;
-            0
-        }
-    }
+    tell(asked::count(table, blocks), answer)
 }
 
 // SA2's plan of the duties: the allotments, block by block, into the lent list.
@@ -166,13 +148,10 @@ pub extern "C" fn tickplume_shares(
     if answer.len() < SHARE_READING_ROOM {
         return too_short(SHARE_READING_ROOM);
     }
-    match share_plan::build_shares(engines, services, periods, allotments) {
-        SharesTold::Refused(why) => word_of(why),
-        SharesTold::Given(reading) => {
-            put_share_reading(answer, reading);
-            0
-        }
-    }
+    tell(
+        share_plan::build_shares(engines, services, periods, allotments),
+        answer,
+    )
 }
 
 // What an engine does at a tick in that plan: the duty or the mark for idle.
@@ -192,11 +171,8 @@ pub extern "C" fn tickplume_share_at(
     if answer.len() < WORD_ROOM {
         return too_short(WORD_ROOM);
     }
-    match share_plan::share_question(engines, services, periods, Engine(engine), tick) {
-        ShareAnswer::Refused(why) => word_of(why),
-        ShareAnswer::Holds(held) => {
-            answer[0] = held_entry(held);
-            0
-        }
-    }
+    tell(
+        share_plan::share_question(engines, services, periods, Engine(engine), tick),
+        answer,
+    )
 }

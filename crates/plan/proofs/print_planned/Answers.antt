@@ -1,7 +1,6 @@
 -- `print_planned`: what was built is judged and printed, or the refusal is.
 use mathlib.Core.Path.{sym, ap}
 use lib.Seq.{length-take-le}
-use borrow.Author.Rules.{rules}
 use Rattle.paper.specs.Text.{printed}
 use Rattle.plan_input.specs.AsWanted.{wanted_in}
 use Rattle.plan.proofs.Building.{built_bytes, built_refused}
@@ -21,25 +20,25 @@ pub slice_bounds-table-end : goal.slice_bounds-table-end
 slice_bounds-table-end c =
     let build = c.build in
     let given = c.args.given in
-    (built_bytes (wanted_in given) build.ensures c.in-Length.is).0
+    (built_bytes (wanted_in given) build.ensures c.in-Ok.is).0
 
 pub slice_bounds-print_plan-end : goal.slice_bounds-print_plan-end
 slice_bounds-print_plan-end c =
     sym (length-take-le _ _ (slice_bounds-table-end (goal.at.slice_bounds-print_plan-end c).After-print_plan-arg-1))
 
-pub returns-in-Length : goal.returns-in-Length
-returns-in-Length c =
+pub returns-in-Ok : goal.returns-in-Ok
+returns-in-Ok c =
     let build = c.build in
     let args = c.args in
     let same = (built_bytes (wanted_in args.given)
     build.ensures
-    c.in-Length.is).1 in
+    c.in-Ok.is).1 in
     puts_as args.out.now (ap printed same) c.print_plan.ensures
 
-pub returns-in-Refused : goal.returns-in-Refused
-returns-in-Refused c =
+pub returns-in-Err : goal.returns-in-Err
+returns-in-Err c =
     let build = c.build in
     let args = c.args in
     let same = built_refused (wanted_in args.given) build.ensures
-    c.in-Refused.is in
+    c.in-Err.is in
     puts_as args.out.now (ap printed (sym same)) c.print_refused.ensures

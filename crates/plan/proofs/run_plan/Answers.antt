@@ -1,21 +1,22 @@
 -- `run_plan`: what was read decides what is printed.
+use mathlib.Core.Path.{sym, ap, ◌∙◌}
+use borrow.Author.Rules.{rules}
+use Rattle.paper.specs.Outcome.{outcome_of}
 use Rattle.plan.proofs.Printed.{puts_as, program_is}
 use Rattle.plan_input.proofs.NothingLost.{read-room}
-use borrow.Author.Rules.{rules}
 use Rattle.plan.proofs.run_plan.Goals as goal
 
 pub print_planned-requires : goal.print_planned-requires
-print_planned-requires c = record { text_room_in_bounds = search rules; has_room = read-room _ c.read_input-read.ensures }
+print_planned-requires c =
+    let same = ap outcome_of (sym c.in-Ok.is) ∙ c.read_input.ensures in
+    record { text_room_in_bounds = search rules; has_room = read-room _ same }
 
-pub returns-in-Done : goal.returns-in-Done
-returns-in-Done c =
-    let read-input = c.read_input-read in
-    let same = program_is _ read-input.ensures c.in-Done.is in
+pub returns-in-Ok : goal.returns-in-Ok
+returns-in-Ok c =
+    let same = program_is _ (ap outcome_of (sym c.in-Ok.is) ∙ c.read_input.ensures) in
     puts_as c.args.out.now same c.print_planned.ensures
 
-pub returns-in-Refused : goal.returns-in-Refused
-returns-in-Refused c =
-    let read-input = c.read_input-read in
-    let same = program_is _ read-input.ensures
-    c.in-Refused.is in
+pub returns-in-Err : goal.returns-in-Err
+returns-in-Err c =
+    let same = program_is _ (ap outcome_of (sym c.in-Err.is) ∙ c.read_input.ensures) in
     puts_as c.args.out.now same c.print_refused.ensures

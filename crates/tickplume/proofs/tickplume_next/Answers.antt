@@ -1,43 +1,27 @@
 -- `tickplume_next`: the dispatcher's verdict as a word, or the next state in its entries.
 use mathlib.Core.Path.{refl}
-use Rattle.paper.specs.Limits.{state_room}
-use borrow.Author.Rules.{rules}
 use borrow.Author.Tests.{lt-ltb}
+use Rattle.paper.specs.Limits.{state_room}
 use Rattle.paper.specs.Answers.{Hands, advanced}
+use Rattle.paper.specs.Face.{state_in}
 use Rattle.plan_laws.proofs.Listed.{next_listed}
-use Rattle.paper.specs.Face.{next_call, state_in}
-use Rattle.tickplume.proofs.Handing.{hands_fits, hands_told}
 use Rattle.tickplume.proofs.Cut.{next_asked}
+use Rattle.tickplume.proofs.Handing.{hands_fits, hands_told}
 use Rattle.tickplume.proofs.tickplume_next.Goals as goal
-use Rattle.tickplume.proofs.tickplume_next.Goals.{After-next, Start}
+use Rattle.tickplume.proofs.tickplume_next.Goals.{After-next}
 
 pub returns-then-state-lt-STATE_ROOM : goal.returns-then-state-lt-STATE_ROOM
 returns-then-state-lt-STATE_ROOM c =
     rw (lt-ltb _ state_room c.if-state-lt-STATE_ROOM.true) (record { said = c.too_short.ensures; left = refl })
 
-pub state_in-requires : goal.state_in-requires
-state_in-requires c = c.if-state-lt-STATE_ROOM.false
-
 -- what it hands back is by the state that was taken, and so by the one that was lent
-asked : (c : After-next) → let args = c.args in
-    Hands (advanced args.table.now (state_in args.state.now)) c.next.result
-asked c =
-    next_asked _ c.args.state.now c.state_in.ensures
-    c.next.ensures
+asked : (c : After-next) → Hands (advanced c.args.table.now (state_in c.args.state.now)) c.next.result
+asked c = next_asked _ c.args.state.now c.state_in.ensures c.next.ensures
 
 pub hand_over-requires : goal.hand_over-requires
 hand_over-requires c =
-    let start = (goal.at.hand_over-requires c).Start in
-    let if1 = c.if-state-lt-STATE_ROOM in (
-      hands_fits (asked (goal.at.hand_over-requires c).After-next)
-          (next_listed _ (state_in start.args.state.now)),
-      if1.false,
-    )
-
-pub shape_of-state : goal.shape_of-state
-shape_of-state c = c.state-1.given
+    (hands_fits (asked (goal.at.hand_over-requires c).After-next) (next_listed _ _), c.if-state-lt-STATE_ROOM.false)
 
 pub returns : goal.returns
 returns c =
-    hands_told (asked (goal.at.returns c).After-next) state_room c.if-state-lt-STATE_ROOM.false
-    c.hand_over.ensures
+    hands_told (asked (goal.at.returns c).After-next) state_room c.args.state.now c.if-state-lt-STATE_ROOM.false c.hand_over.ensures

@@ -1,44 +1,32 @@
 -- `tickplume_shares`: the answer of the builder of shares as a word, or its reading as three entries; the builder of shares has written the
 -- list.
-use borrow.Author.Rules.{rules}
-use Rattle.paper.specs.Wanted.{Wanted, wanted}
-use Rattle.tickplume.proofs.Sharing.{shares_fits, shares_short, shares_refused, shares_answer}
+use mathlib.Core.Path.{refl, ap, ◌∙◌}
+use lib.ListN.{length}
+use borrow.Author.Tests.{lt-ltb, le-ltb}
+use Rattle.paper.specs.Face.{entries, share_reading_entries}
+use Rattle.paper.specs.Limits.{share_reading_room}
+use Rattle.paper.specs.Wanted.{wanted}
+use Rattle.paper.specs.Shares.{share_plan, reading_of_shares}
+use Rattle.share_laws.proofs.SharesListed.{shares_listed}
+use Rattle.tickplume.proofs.Telling.{in_word, listed_of, entries_of}
 use Rattle.tickplume.proofs.tickplume_shares.Goals as goal
-use Rattle.tickplume.proofs.tickplume_shares.Goals.{Start}
-
--- what is wanted
-abbrev want : Start → Wanted
-want c = wanted c.args.engines c.args.services.now c.args.periods.now
 
 pub returns-then-answer-lt-SHARE_READING_ROOM : goal.returns-then-answer-lt-SHARE_READING_ROOM
 returns-then-answer-lt-SHARE_READING_ROOM c =
-    let both =
-    shares_short (want (goal.at.returns-then-answer-lt-SHARE_READING_ROOM c).Start) c.args.allotments.now c.args.answer.now _
-    c.if-answer-lt-SHARE_READING_ROOM.true c.too_short.ensures
-    in
-    record { tells = both.0; allotments_after = both.1 }
+    rw (lt-ltb _ share_reading_room c.if-answer-lt-SHARE_READING_ROOM.true)
+    (record { tells = record { said = c.too_short.ensures; left = refl }; allotments_after = refl })
 
-pub word_of-requires : goal.word_of-requires
-word_of-requires c =
-    let build-shares = c.build_shares in
-    shares_fits (want (goal.at.word_of-requires c).Start) c.args.allotments.now build-shares.ensures
-    c.in-Refused.is
+pub tell-requires : goal.tell-requires
+tell-requires c =
+    let o = share_plan (wanted c.args.engines c.args.services.now c.args.periods.now) (length c.args.allotments.now) in
+    record {
+      fits = in_word (listed_of reading_of_shares o (shares_listed _ _)) c.build_shares.ensures.said;
+      room = c.if-answer-lt-SHARE_READING_ROOM.false;
+    }
 
-pub returns-in-Refused : goal.returns-in-Refused
-returns-in-Refused c =
-    let both =
-    shares_refused (want (goal.at.returns-in-Refused c).Start) c.args.allotments.now c.args.answer.now _
-    c.if-answer-lt-SHARE_READING_ROOM.false
-    c.build_shares.ensures c.in-Refused.is c.word_of.ensures
-    in
-    record { tells = both.0; allotments_after = both.1 }
-
-pub returns-in-Given : goal.returns-in-Given
-returns-in-Given c =
-    let both =
-    shares_answer (want (goal.at.returns-in-Given c).Start) c.args.allotments.now c.args.answer.now _
-    c.if-answer-lt-SHARE_READING_ROOM.false
-    c.build_shares.ensures c.in-Given.is
-    c.put_share_reading.ensures
-    in
-    record { tells = both.0; allotments_after = both.1 }
+pub returns : goal.returns
+returns c =
+    let o = share_plan (wanted c.args.engines c.args.services.now c.args.periods.now) (length c.args.allotments.now) in
+    let told = ap (entries share_reading_entries) c.build_shares.ensures.said ∙ entries_of reading_of_shares share_reading_entries o in
+    rw (le-ltb _ share_reading_room c.if-answer-lt-SHARE_READING_ROOM.false)
+    (record { tells = rw told at c.tell.ensures; allotments_after = c.build_shares.ensures.left })

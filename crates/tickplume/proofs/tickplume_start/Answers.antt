@@ -1,10 +1,8 @@
 -- `tickplume_start`: the dispatcher's verdict as a word, or its state in its entries.
 use mathlib.Core.Path.{refl}
-use Rattle.paper.specs.Limits.{state_room}
-use borrow.Author.Rules.{rules}
 use borrow.Author.Tests.{lt-ltb}
+use Rattle.paper.specs.Limits.{state_room}
 use Rattle.plan_laws.proofs.Listed.{start_listed}
-use Rattle.paper.specs.Face.{start_call}
 use Rattle.tickplume.proofs.Handing.{hands_fits, hands_told}
 use Rattle.tickplume.proofs.tickplume_start.Goals as goal
 
@@ -15,10 +13,5 @@ returns-then-state-lt-STATE_ROOM c =
 pub hand_over-requires : goal.hand_over-requires
 hand_over-requires c = (hands_fits c.start.ensures (start_listed _ _), c.if-state-lt-STATE_ROOM.false)
 
-pub shape_of-state : goal.shape_of-state
-shape_of-state c = c.state-1.given
-
 pub returns : goal.returns
-returns c =
-    hands_told c.start.ensures state_room c.if-state-lt-STATE_ROOM.false
-    c.hand_over.ensures
+returns c = hands_told c.start.ensures state_room c.args.state.now c.if-state-lt-STATE_ROOM.false c.hand_over.ensures
