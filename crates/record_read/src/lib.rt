@@ -183,6 +183,22 @@ impl<'a> TableBytes<'a> {
         self.reading
     }
 
+    // How many duties there are. (`as` here and below: std has no `From` of 32 bits to `usize`, and nothing is lost.)
+    pub fn duties(&self) -> usize
+        ensures told { result ≡ length self.now.duties }
+        ensures ranged { Ranged small self.now }
+    {
+        self.reading.duties as usize
+    }
+
+    // How many runs there are.
+    pub fn runs(&self) -> usize
+        ensures told { result ≡ length self.now.runs }
+        ensures ranged { Ranged small self.now }
+    {
+        self.reading.runs as usize
+    }
+
     // Duty d.
     pub fn duty(&self, d: usize) -> Duty
         requires { d < length self.now.duties }
