@@ -2,8 +2,9 @@
 // the refusals 6 to 8 and the table written, takes any block length.
 #![tactic(auto)]
 
-ghost use Rattle.std.specs.Prelude.{length};
+ghost use Rattle.std.specs.Prelude.{◌≤◌, length};
 ghost use Rattle.paper.specs.Outcome.{Writes};
+ghost use Rattle.paper.specs.Limits.{most_engines};
 ghost use Rattle.paper.specs.Wanted.{wanted};
 ghost use Rattle.builder.specs.BuildAt.{build_at};
 ghost use Rattle.paper.specs.Builder.{build as build_from};
@@ -17,6 +18,7 @@ use slices::length_meant;
 
 // The builder from refusal 6 on, for any block length in range. The answer is the table's length in bytes.
 fn build_fitting(laying: &Laying, out: &mut [u8]) -> Result<usize, Refusal>
+    requires { laying.now.engines ≤ most_engines }
     ensures { Writes (build_at laying.now.ticks laying.now.engines laying.now.duties (length out.old)) result
         out.old out.new }
 {

@@ -1,7 +1,7 @@
--- What is laid by SA1: taken duties, a block length in range, and as many rows as there are engines.
+-- What is laid by SA1: duties, a block length in range, and as many rows as there are engines.
 use Rattle.std.specs.Prelude.{ℕ, ◌≤◌, List}
 use Rattle.paper.specs.declared.Duty.{Duty}
-use Rattle.paper.specs.Limits.{most_engines, most_ticks}
+use Rattle.paper.specs.Limits.{most_ticks}
 
 pub record Laid : Type 0 where
   pub ticks : ℕ
@@ -15,4 +15,3 @@ laying t m ds = record { ticks = t; engines = m; duties = ds }
 pub record Layable (s : Laid) : Type 0 where
   pub ticks_least : 1 ≤ s.ticks
   pub ticks_most : s.ticks ≤ most_ticks
-  pub engines_most : s.engines ≤ most_engines

@@ -4,7 +4,7 @@
 
 ghost use Rattle.std.specs.Prelude.{◌≡◌, ◌≤◌, ◌<◌, length};
 ghost use Rattle.paper.specs.Duties.{duty_at};
-ghost use Rattle.paper.specs.Limits.{most_engines, most_ticks};
+ghost use Rattle.paper.specs.Limits.{most_ticks};
 ghost use Rattle.paper.specs.Statements.{DutyRanged};
 ghost use Rattle.duty_lists.specs.Listed.{Listed};
 ghost use Rattle.sa1_measure.specs.Layings.{laying, Layable};
@@ -37,7 +37,7 @@ impl<'a> Model for Laying<'a> {
 impl<'a> Laying<'a> {
     // Taken duties, in blocks of any length in range.
     pub fn new(ticks: u32, engines: u32, duties: Duties<'a>) -> Laying<'a>
-        requires { (1 ≤ ticks) × (ticks ≤ most_ticks) × (engines ≤ most_engines) }
+        requires { (1 ≤ ticks) × (ticks ≤ most_ticks) }
         ensures { result ≡ laying ticks engines duties.entry }
     {
         Laying {

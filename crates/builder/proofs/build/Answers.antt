@@ -48,8 +48,10 @@ returns-then-greatest-t-ne0 c =
 pub new-requires : goal.new-requires
 new-requires c =
     let k = known (goal.at.new-requires c).After-length_meant-t in
-    let within = within_past k c.if-greatest-t-ne0.false in
-    (within.0, within.1, k.takes.counts.engines.1)
+    within_past k c.if-greatest-t-ne0.false
+
+pub build_fitting-requires : goal.build_fitting-requires
+build_fitting-requires c = rw c.new.ensures (takes (goal.at.build_fitting-requires c).After-length_meant-t).0.counts.engines.1
 
 pub returns : goal.returns
 returns c =
