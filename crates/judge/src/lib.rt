@@ -23,7 +23,7 @@ fn judge_duties(table: &TableBytes) -> Result<(), Fault>
         return Err(Fault::BlockLength);
     }
     let d = bad_slice(table);
-    if d < table.reading().duties as usize {
+    if d < table.duties() {
         return Err(Fault::Slice(d));
     }
     Ok(())

@@ -16,7 +16,7 @@ use search::lowest;
 pub fn first_amiss(table: &TableBytes) -> usize
     ensures { result ≡ first (beside (wrongly table.now.runs)) (length table.now.runs) }
 {
-    let runs = table.reading().runs as usize;
+    let runs = table.runs();
     lowest(1, runs, |k| is_wrong(table.run(k - 1), table.run(k)))
 }
 
@@ -25,7 +25,7 @@ pub fn bad_order(table: &TableBytes, from: usize) -> usize
     requires { Comparing (wrongly table.now.runs) from }
     ensures { result ≡ bad_order table.now }
 {
-    let runs = table.reading().runs as usize;
+    let runs = table.runs();
     lowest(from, runs, |k| !is_before(table.run(k - 1), table.run(k)))
 }
 
@@ -35,7 +35,7 @@ pub fn lowest_overlap(table: &TableBytes, from: usize) -> usize
     requires { Comparing (wrongly table.now.runs) from × (length table.now.runs ≤ bad_order table.now) }
     ensures { result ≡ lowest overlaps table.now.runs }
 {
-    let runs = table.reading().runs as usize;
+    let runs = table.runs();
     lowest(from, runs, |k| do_overlap(table.run(k - 1), table.run(k)))
 }
 
@@ -46,6 +46,6 @@ pub fn lowest_joint(table: &TableBytes, from: usize) -> usize
         × (length table.now.runs ≤ lowest overlaps table.now.runs) }
     ensures { result ≡ lowest joins table.now.runs }
 {
-    let runs = table.reading().runs as usize;
+    let runs = table.runs();
     lowest(from, runs, |k| does_join(table.run(k - 1), table.run(k)))
 }

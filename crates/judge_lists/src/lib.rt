@@ -38,7 +38,7 @@ fn starts_before(table: &TableBytes, pointer: usize, unit: u32) -> bool
 fn stops_after(table: &TableBytes, spot: usize, unit: u32) -> bool
     ensures { result ≡ stops_after table.now.runs spot unit }
 {
-    if spot >= table.reading().runs as usize {
+    if spot >= table.runs() {
         return false;
     }
     let x = table.run(spot);
@@ -75,7 +75,7 @@ impl Lists {
         if starts_before(table, pointer, y.first) {
             return pointer - 1;
         }
-        table.reading().runs as usize + y.duty as usize
+        table.runs() + y.duty as usize
     }
 
     // The spot of run k in its duty's list: the last one that is before it.

@@ -17,21 +17,19 @@ use slices::share_of;
 pub fn is_undivided(table: &TableBytes) -> bool
     ensures { result ≡ undivided table.now.ticks table.now.duties }
 {
-    let rd = table.reading();
-    let duties = rd.duties as usize;
-    lowest(0, duties, |d| table.duty(d).period % rd.block_length != 0) < duties
+    let t = table.reading().block_length;
+    let duties = table.duties();
+    lowest(0, duties, |d| table.duty(d).period % t != 0) < duties
 }
 
 // 12. The lowest duty with a slice that is not whole, or how many duties there are.
 pub fn bad_slice(table: &TableBytes) -> usize
     ensures { result ≡ bad_slice table.now.ticks table.now.duties }
 {
-    let rd = table.reading();
-    lowest(
-        0,
-        rd.duties as usize,
-        |d| share_of(rd.block_length, table.duty(d)).rest != 0,
-    )
+    let t = table.reading().block_length;
+    lowest(0, table.duties(), |d| {
+        share_of(t, table.duty(d)).rest != 0
+    })
 }
 
 // 17. The lowest duty whose runs do not add up to its slice, by the units of each duty, or how many duties there are.
@@ -39,10 +37,8 @@ pub fn bad_sum(table: &TableBytes, units: &[u32; MOST_DUTIES]) -> usize
     requires { units.now ≡ units_in table.now }
     ensures { result ≡ bad_sum table.now }
 {
-    let rd = table.reading();
-    lowest(
-        0,
-        rd.duties as usize,
-        |i| units[i] != share_of(rd.block_length, table.duty(i)).units,
-    )
+    let t = table.reading().block_length;
+    lowest(0, table.duties(), |i| {
+        units[i] != share_of(t, table.duty(i)).units
+    })
 }

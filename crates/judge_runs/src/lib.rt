@@ -22,7 +22,7 @@ fn search_rows(table: &TableBytes, from: usize) -> Result<(), Fault>
     requires { Comparing (wrongly table.now.runs) from }
     ensures { passed_as result table.now ≡ judge_rows table.now }
 {
-    let runs = table.reading().runs as usize;
+    let runs = table.runs();
     let unordered = bad_order(table, from);
     if unordered < runs {
         return Err(Fault::Order(unordered));
@@ -43,7 +43,7 @@ pub fn judge_rows(table: &TableBytes) -> Result<(), Fault>
     ensures { passed_as result table.now ≡ judge_rows table.now }
 {
     let amiss = first_amiss(table);
-    if amiss < table.reading().runs as usize {
+    if amiss < table.runs() {
         return search_rows(table, amiss);
     }
     Ok(())
@@ -54,13 +54,12 @@ pub fn judge_service(table: &TableBytes, units: &[u32; MOST_DUTIES]) -> Result<(
     requires { (units.now ≡ units_in table.now) × (length table.now.runs ≤ lowest overlaps table.now.runs) }
     ensures { passed_as result table.now ≡ judge_service table.now }
 {
-    let rd = table.reading();
     let twice = lowest_twice(table);
-    if twice < rd.runs as usize {
+    if twice < table.runs() {
         return Err(Fault::Twice(twice));
     }
     let wrong = bad_sum(table, units);
-    if wrong < rd.duties as usize {
+    if wrong < table.duties() {
         return Err(Fault::Service(wrong));
     }
     Ok(())

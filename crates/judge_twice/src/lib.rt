@@ -14,7 +14,7 @@ pub fn lowest_twice(table: &TableBytes) -> usize
     requires { length table.now.runs ≤ lowest overlaps table.now.runs }
     ensures { result ≡ lowest twice table.now.runs }
 {
-    let runs = table.reading().runs as usize;
+    let runs = table.runs();
     let mut lists = Lists::new();
     for k in 0..runs {
         let duty = table.run(k).duty as usize;

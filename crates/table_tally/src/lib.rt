@@ -52,7 +52,7 @@ pub fn tally(table: &TableBytes) -> Gathered
             last: None,
         }; EDGE_ROWS],
     };
-    for k in (0..reading.runs as usize).rev() {
+    for k in (0..table.runs()).rev() {
         let x = table.run(k);
         gathered.units[x.duty as usize] += x.length;
         let row = x.row.0 as usize;

@@ -13,7 +13,7 @@ use record_read::{TableBytes, run_covers};
 pub fn find_run(table: &TableBytes, row: Row, unit: u32) -> usize
     ensures { result ≡ first (λ k. covers (run_at table.now.runs k) row unit) (length table.now.runs) }
 {
-    let idle = table.reading().runs as usize;
+    let idle = table.runs();
     let mut k = 0;
     loop {
         if idle <= k {
@@ -31,7 +31,7 @@ pub fn held(table: &TableBytes, row: Row, unit: u32) -> Held
     ensures { result ≡ held_in table.now.runs row unit }
 {
     let k = find_run(table, row, unit);
-    if k < table.reading().runs as usize {
+    if k < table.runs() {
         Some(table.run(k).duty)
     } else {
         None

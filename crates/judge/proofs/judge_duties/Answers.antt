@@ -5,10 +5,10 @@ use Rattle.paper.specs.Builder.{bad_slice}
 use Rattle.paper.specs.Rules.{judge_duties}
 use Rattle.judge.proofs.judge_duties.Goals as goal
 
-pub returns-then-d-reading : goal.returns-then-d-reading
+pub returns-then-d-duties : goal.returns-then-d-duties
 unfolding judge_duties
-returns-then-d-reading c =
+returns-then-d-duties c =
     let t = c.args.table.now in
     let divided = sym c.is_undivided.ensures ∙ c.if-is_undivided.false in
-    let found = rw (c.bad_slice-d.ensures, c.reading.ensures.told) at c.if-d-reading.true in
+    let found = rw (c.bad_slice-d.ensures, c.duties.ensures.told) at c.if-d-duties.true in
     rw (divided, c.bad_slice-d.ensures, lt-ltb (bad_slice t.ticks t.duties) (length t.duties) found)

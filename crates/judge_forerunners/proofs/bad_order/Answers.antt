@@ -10,4 +10,4 @@ returns c =
     let xs = c.args.table.now.runs in
     let none = compare_less (misplaced xs) (wrongly xs) (not_misplaced xs) c.requires in
     let found = c.lowest.ensures (beside (misplaced xs)) none.clear (λ k b l h looked. told none l (search rules)) in
-    rw c.reading-runs.ensures.told at found ∙ sym (lowest-misplaced xs)
+    rw c.runs-runs.ensures.told at found ∙ sym (lowest-misplaced xs)

@@ -9,4 +9,4 @@ pub returns : goal.returns
 returns c =
     let wrong = wrongly c.args.table.now.runs in
     let none = compare_none wrong in
-    rw c.reading-runs.ensures.told at (c.lowest.ensures (beside wrong) none.clear (λ k b l h looked. told none l (search rules)))
+    rw c.runs-runs.ensures.told at (c.lowest.ensures (beside wrong) none.clear (λ k b l h looked. told none l (search rules)))

@@ -10,5 +10,5 @@ returns c =
     let t = c.args.table.now in
     let none = compare_less (joining t.runs) (wrongly t.runs) (not_joining t.runs) c.requires.0 in
     let found = c.lowest.ensures (beside (joining t.runs)) none.clear (λ k b l h looked. told none l (search rules)) in
-    rw c.reading-runs.ensures.told at found
+    rw c.runs-runs.ensures.told at found
     ∙ sym (lowest-joining t.runs (found_ordered t c.requires.1) (found_apart t.runs c.requires.2))

@@ -10,4 +10,4 @@ returns c =
     let t = c.args.table.now in
     let none = compare_less (overlapping t.runs) (wrongly t.runs) (not_overlapping t.runs) c.requires.0 in
     let found = c.lowest.ensures (beside (overlapping t.runs)) none.clear (λ k b l h looked. told none l (search rules)) in
-    rw c.reading-runs.ensures.told at found ∙ sym (lowest-overlapping t.runs (found_ordered t c.requires.1))
+    rw c.runs-runs.ensures.told at found ∙ sym (lowest-overlapping t.runs (found_ordered t c.requires.1))

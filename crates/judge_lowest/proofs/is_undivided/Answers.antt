@@ -10,4 +10,4 @@ returns c =
     let t = c.args.table.now in
     let none = seek_none _ 0 in
     let found = c.lowest.ensures (λ i. not (divides t.ticks (duty_at t.duties i).period)) none.clear (λ k b l h looked. search rules) in
-    rw (found, c.reading-rd.ensures.told)
+    rw (found, c.duties-duties.ensures.told)

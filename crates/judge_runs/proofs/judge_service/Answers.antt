@@ -4,17 +4,17 @@ use borrow.Author.Tests.{lt-ltb, le-ltb}
 use Rattle.paper.specs.Rules.{twice, lowest, bad_sum}
 use Rattle.judge_runs.proofs.judge_service.Goals as goal
 
-pub returns-then-twice-rd : goal.returns-then-twice-rd
-returns-then-twice-rd c =
+pub returns-then-twice-runs : goal.returns-then-twice-runs
+returns-then-twice-runs c =
     let runs = c.args.table.now.runs in
-    let found = rw (c.lowest_twice-twice.ensures, c.reading-rd.ensures.told) at c.if-twice-rd.true in
+    let found = rw (c.lowest_twice-twice.ensures, c.runs.ensures.told) at c.if-twice-runs.true in
     rw (c.lowest_twice-twice.ensures, lt-ltb (lowest twice runs) (length runs) found)
 
-pub returns-then-wrong-rd : goal.returns-then-wrong-rd
-returns-then-wrong-rd c =
+pub returns-then-wrong-duties : goal.returns-then-wrong-duties
+returns-then-wrong-duties c =
     let t = c.args.table.now in
-    let none = rw (c.lowest_twice-twice.ensures, c.reading-rd.ensures.told) at c.if-twice-rd.false in
-    let found = rw (c.bad_sum-wrong.ensures, c.reading-rd.ensures.told) at c.if-wrong-rd.true in
+    let none = rw (c.lowest_twice-twice.ensures, c.runs.ensures.told) at c.if-twice-runs.false in
+    let found = rw (c.bad_sum-wrong.ensures, c.duties.ensures.told) at c.if-wrong-duties.true in
     rw (
       c.bad_sum-wrong.ensures,
       le-ltb (lowest twice t.runs) (length t.runs) none,

@@ -17,22 +17,22 @@ rowed {t} R h = record { apart = found_apart t.runs h; long = λ k l. (R.run_ran
 
 pub is_twice-requires : goal.is_twice-requires
 is_twice-requires c = (
-  c.reading-runs.ensures.ranged.ticks_most,
-  rowed c.reading-runs.ensures.ranged c.requires,
+  c.runs-runs.ensures.ranged.ticks_most,
+  rowed c.runs-runs.ensures.ranged c.requires,
   c.loop-k.invariant.search.clear,
   c.spot_of-spot.ensures,
 )
 
 pub returns-then-is_twice : goal.returns-then-is_twice
 returns-then-is_twice c =
-    seek_hit c.loop-k.invariant.search (rw c.reading-runs.ensures.told at c.loop-k-test.true)
+    seek_hit c.loop-k.invariant.search (rw c.runs-runs.ensures.told at c.loop-k-test.true)
     (sym c.is_twice.ensures ∙ c.if-is_twice.true)
 
 -- run k does not break the rule: it is passed, and put into its list
 pub loop-k-preserved : goal.loop-k-preserved
 loop-k-preserved c =
-    let ranged = c.reading-runs.ensures.ranged in
-    let few = rw c.reading-runs.ensures.told at c.loop-k-test.true in
+    let ranged = c.runs-runs.ensures.ranged in
+    let few = rw c.runs-runs.ensures.told at c.loop-k-test.true in
     let run = c.run-duty.ensures in
     let listed = c.loop-k.invariant.listed in
     let more = seek_more c.loop-k.invariant.search few (sym c.is_twice.ensures ∙ c.if-is_twice.false) in
@@ -46,5 +46,5 @@ loop-k-preserved c =
 
 pub returns : goal.returns
 returns c =
-    let end = rw c.reading-runs.ensures.told at c.loop-k-test.false in
-    rw c.reading-runs.ensures.told (sym (first_none _ _ (λ j l. c.loop-k.invariant.search.clear j (omega (arith, end)))))
+    let end = rw c.runs-runs.ensures.told at c.loop-k-test.false in
+    rw c.runs-runs.ensures.told (sym (first_none _ _ (λ j l. c.loop-k.invariant.search.clear j (omega (arith, end)))))
