@@ -26,4 +26,5 @@ entry {F} {B} g f value h d l i (suc m) q e (p, y, at, call, rest) k low high =
 
 pub from_fn_tab : {F B : Type 0} (g : Mut F (ℕ × Unit {0}) B) (f : F) (value : ℕ → B) → Gives g f value → (d : B) (l : List B) (n : ℕ)
     → IsFromFnResult g f l n → l ≡ tab n value
-from_fn_tab g f value h d l n r = tab_of d n value l r.long (λ k less. entry g f value h d l 0 n f refl r.each k (omega arith) (omega arith))
+from_fn_tab g f value h d l n r =
+    tab_of d n value l r.long (λ k less. entry g f value h d l 0 n f refl r.each k (omega arith) (omega arith))

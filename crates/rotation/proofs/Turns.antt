@@ -4,8 +4,6 @@
 use Prim.Native.Nat.{ℕ, ◌+◌, ◌≤◌, ◌<◌}
 use mathlib.Core.Path.{◌≡◌, sym, ap, ◌∙◌}
 use mathlib.Core.Bool.{Bool}
-use native.Mathlib.Nat.{mod-lt}
-use native.Mathlib.Omega.{arith}
 use Rattle.paper.specs.Duties.{engine}
 use Rattle.paper.specs.Rotation.{row_at}
 use Rattle.walk_laws.proofs.Page.{row_reduced, chain_other}
@@ -13,9 +11,6 @@ use Rattle.rotation.specs.declared.Turned.{Turned}
 use Rattle.rotation.specs.Turning.{IsTurned, round}
 
 module _ {c : ℕ → Bool} {b r : ℕ} {x : Turned} (t : IsTurned c b r x) where
-  pub places_few : x.places < x.chain.length
-  places_few = omega (arith, t.places, mod-lt b {m = x.chain.length} (omega (arith, t.chained)))
-
   pub row_turned : round x.chain r x.places ≡ row_at c b (engine r)
   row_turned = ap (round x.chain r) t.places ∙ sym (row_reduced c b t.chained)
 

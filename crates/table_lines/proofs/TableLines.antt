@@ -1,5 +1,5 @@
--- The lines of what stands in a table have room. A number that is printed has at most 7 digits, so a line of n numbers has at most 8 n bytes after its word, and there are at
--- most 64 duties and 128 runs.
+-- The lines of what stands in a table have room. A number that is printed has at most 7 digits, so a line of n numbers has at most 8 n bytes
+-- after its word, and there are at most 64 duties and 128 runs.
 -- Assumes nothing.
 use Prim.Native.Nat.{ℕ, ◌+◌, ◌-◌, ◌≤◌, ◌<◌}
 use mathlib.Core.Path.{◌≡◌, refl, ap}
@@ -24,11 +24,13 @@ use Rattle.table_lines.specs.Parts.{duty_lines, run_lines}
 -- ---- how long the parts are
 
 -- a duty's line, and a run's
-pub duty_fits : (i : ℕ) (x : Duty) → i < most_duties → DutyRanged x → length (print_line duty_word (i ∷ x.service ∷ x.period ∷ [])) ≤ duty_line_room
+pub duty_fits : (i : ℕ) (x : Duty) → i < most_duties → DutyRanged x
+    → length (print_line duty_word (i ∷ x.service ∷ x.period ∷ [])) ≤ duty_line_room
 duty_fits i x h r =
     omega (arith, line_most 6 duty_word (i ∷ x.service ∷ x.period ∷ []) (omega arith, (omega (arith, r), (omega (arith, r), tt))))
 
-pub run_fits : {t : Table} → Ranged small t → (x : Run) → RunRanged t.ticks t.engines (length t.duties) x → length (run_line x) ≤ run_line_room
+pub run_fits : {t : Table} → Ranged small t → (x : Run) → RunRanged t.ticks t.engines (length t.duties) x
+    → length (run_line x) ≤ run_line_room
 run_fits {t} g x r =
     let T : t.ticks ≤ most_ticks = g.ticks_most in
     let E : t.engines ≤ most_engines = g.engines_most in

@@ -16,13 +16,15 @@ use Rattle.chain_lines.proofs.print_rotation.Goals.{After-from-kept}
 runs-are : (c : After-from-kept) → c.from-runs.result ≡ length c.args.accepted.now.runs
 runs-are c = c.from-runs.ensures ∙ ap (λ r. r.runs) c.reading.ensures.told ∙ ap (λ (t : Table). length t.runs) c.table.ensures.same
 
-fits : (c : After-from-kept) → length (print_line loads_word (c.from-runs.result ∷ (c.from-runs.result - c.from-kept.result) ∷ [])) ≤ loads_line_room
+fits : (c : After-from-kept)
+    → length (print_line loads_word (c.from-runs.result ∷ (c.from-runs.result - c.from-kept.result) ∷ [])) ≤ loads_line_room
 fits c =
     let runs : c.from-runs.result ≤ most_runs = omega (arith, runs-are c, c.table.ensures.ranged.runs_most) in
     loads_fit _ _ runs (omega arith)
 
 pub print_line-requires : goal.print_line-requires
-print_line-requires c = rw length-lent (omega (arith, fits (goal.at.print_line-requires c).After-from-kept, c.print_chains-at.ensures.upper_bound))
+print_line-requires c =
+    rw length-lent (omega (arith, fits (goal.at.print_line-requires c).After-from-kept, c.print_chains-at.ensures.upper_bound))
 
 pub overflow_add-result : goal.overflow_add-result
 overflow_add-result c =

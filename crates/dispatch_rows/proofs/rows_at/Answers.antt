@@ -22,7 +22,8 @@ pub loop-i-preserved : goal.loop-i-preserved
 loop-i-preserved c =
     let loop = c.loop-i in
     let t = c.onward-turned.ensures in
-    let few : loop.i < most_engines = omega (arith, c.table.ensures.ranged.engines_most, engines-are (goal.at.loop-i-preserved c).After-reading-engines) in
+    let engines = engines-are (goal.at.loop-i-preserved c).After-reading-engines in
+    let few : loop.i < most_engines = omega (arith, c.table.ensures.ranged.engines_most, engines) in
     let filled = rows_more (link_of c.edges-edges.result.now) c.args.block loop.i few (c.row_of.ensures ∙ row_turned t) in
     (next_at_hand t, rw loop.invariant.1 filled)
 

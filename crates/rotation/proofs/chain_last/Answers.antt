@@ -17,4 +17,5 @@ pub returns : goal.returns
 returns c =
     let loop = c.loop-r in
     let z : loop.r ≡ most_engines = omega arith in
-    record { after = search rules; most = search rules; chained = ap (first_of _) (sym z) ∙ loop.invariant.2; ends = link_past _ (search rules) }
+    let same = ap (first_of _) (sym z) ∙ loop.invariant.2 in
+    record { after = search rules; most = search rules; chained = same; ends = link_past _ (search rules) }

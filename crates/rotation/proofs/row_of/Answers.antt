@@ -1,8 +1,7 @@
 -- `row_of`: the places together are fewer than two lengths of the chain, so the remainder is one difference at most, and nothing wraps.
-use Prim.Native.Nat.{ℕ, ◌+◌, ◌-◌, ◌%◌, ◌≤◌, ◌<◌}
-use mathlib.Core.Path.{◌≡◌, sym, ap, ◌∙◌}
-use native.Mathlib.Nat.{mod-eq_of_lt, add-mod_left}
-use native.Mathlib.Omega.{arith}
+use Prim.Native.Nat.{◌+◌}
+use mathlib.Core.Path.{sym, ap}
+use native.Mathlib.Nat.{mod-eq_of_lt}
 use Rattle.paper.specs.Words.{row}
 use borrow.Author.Rules.{rules}
 use Rattle.rotation.proofs.row_of.Goals as goal

@@ -1,6 +1,4 @@
 -- `tickplume_next`: the dispatcher's verdict as a word, or the next state in its entries.
-use mathlib.Core.Path.{refl}
-use borrow.Author.Tests.{lt-ltb}
 use Rattle.paper.specs.Limits.{state_room}
 use Rattle.paper.specs.Answers.{Hands, advanced}
 use Rattle.paper.specs.Face.{state_in}
@@ -9,10 +7,6 @@ use Rattle.tickplume.proofs.Cut.{next_asked}
 use Rattle.tickplume.proofs.Handing.{hands_fits, hands_told}
 use Rattle.tickplume.proofs.tickplume_next.Goals as goal
 use Rattle.tickplume.proofs.tickplume_next.Goals.{After-next}
-
-pub returns-then-state-lt-STATE_ROOM : goal.returns-then-state-lt-STATE_ROOM
-returns-then-state-lt-STATE_ROOM c =
-    rw (lt-ltb _ state_room c.if-state-lt-STATE_ROOM.true) (record { said = c.too_short.ensures; left = refl })
 
 -- what it hands back is by the state that was taken, and so by the one that was lent
 asked : (c : After-next) → Hands (advanced c.args.table.now (state_in c.args.state.now)) c.next.result

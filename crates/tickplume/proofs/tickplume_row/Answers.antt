@@ -1,6 +1,6 @@
 -- `tickplume_row`: the row by the state as a word, or as one entry.
-use mathlib.Core.Path.{◌≡◌, refl, ap}
-use borrow.Author.Tests.{lt-ltb, le-ltb}
+use mathlib.Core.Path.{◌≡◌, ap}
+use borrow.Author.Tests.{le-ltb}
 use Rattle.paper.specs.Duties.{engine}
 use Rattle.paper.specs.Limits.{word_room, state_room}
 use Rattle.paper.specs.Outcome.{outcome_of}
@@ -11,15 +11,6 @@ use Rattle.tickplume.proofs.Telling.{in_word, told}
 use Rattle.tickplume.proofs.Cut.{row_asked}
 use Rattle.tickplume.proofs.tickplume_row.Goals as goal
 use Rattle.tickplume.proofs.tickplume_row.Goals.{After-row}
-
-pub returns-then-state-lt-STATE_ROOM : goal.returns-then-state-lt-STATE_ROOM
-returns-then-state-lt-STATE_ROOM c =
-    rw (lt-ltb _ state_room c.if-state-lt-STATE_ROOM.true) (record { said = c.too_short.ensures; left = refl })
-
-pub returns-then-answer-lt-WORD_ROOM : goal.returns-then-answer-lt-WORD_ROOM
-returns-then-answer-lt-WORD_ROOM c =
-    rw (le-ltb _ state_room c.if-state-lt-STATE_ROOM.false, lt-ltb _ word_room c.if-answer-lt-WORD_ROOM.true)
-    (record { said = c.too_short-then-answer-lt-WORD_ROOM.ensures; left = refl })
 
 -- it is told by the state that was taken, and so by the one that was lent
 asked : (c : After-row) → outcome_of c.row.result ≡ row_told c.args.table.now (state_in c.args.state.now) (engine c.args.engine)
