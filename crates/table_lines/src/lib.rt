@@ -16,7 +16,7 @@ fn print_duties(out: &mut [u8], table: &TableBytes) -> usize
     ensures puts { Puts (duty_lines table.now) out.old out.new result }
     ensures upper_bound { result ≤ duty_lines_room }
 {
-    let count = table.reading().duties as usize;
+    let count = table.duties();
     let mut at = 0;
     for i in 0..count {
         let x = table.duty(i);
@@ -32,7 +32,7 @@ fn print_runs(out: &mut [u8], table: &TableBytes) -> usize
     ensures puts { Puts (run_lines table.now) out.old out.new result }
     ensures upper_bound { result ≤ run_lines_room }
 {
-    let count = table.reading().runs as usize;
+    let count = table.runs();
     let mut at = 0;
     for k in 0..count {
         let x = table.run(k);

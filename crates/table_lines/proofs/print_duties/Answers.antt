@@ -23,8 +23,8 @@ line t i h e f g = rw (get_or-tab (length t.duties) (λ j. j) 0 i h, f, g, e) re
 pub loop-i-init : goal.loop-i-init
 loop-i-init c =
     let t = c.args.table.now in
-    let count : length t.duties ≡ c.reading-count.result.duties = omega arith in
-    lining_start _ (length-tab _ (λ i. i) ∙ count) (duties_most c.reading-count.ensures.ranged)
+    let count : length t.duties ≡ c.duties-count.result = omega arith in
+    lining_start _ (length-tab _ (λ i. i) ∙ count) (duties_most c.duties-count.ensures.ranged)
 
 pub print_line-at-requires : goal.print_line-at-requires
 print_line-at-requires c =

@@ -14,8 +14,8 @@ use Rattle.table_lines.proofs.print_runs.Goals as goal
 
 pub loop-k-init : goal.loop-k-init
 loop-k-init c =
-    let count : length c.args.table.now.runs ≡ c.reading-count.result.runs = omega arith in
-    lining_start _ count (runs_most c.reading-count.ensures.ranged)
+    let count : length c.args.table.now.runs ≡ c.runs-count.result = omega arith in
+    lining_start _ count (runs_most c.runs-count.ensures.ranged)
 
 -- the line of a run that was read is that of its number
 line : {x y : Run} {row duty first long : ℕ} → x ≡ y → row ≡ x.row.0 → duty ≡ x.duty → first ≡ x.first → long ≡ x.length
