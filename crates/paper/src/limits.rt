@@ -30,6 +30,9 @@ pub const RUN_LENGTH: usize = 11;
 
 pub const END_LENGTH: usize = 3;
 
+// The bytes of the widest field of a record, a number of 32 bits.
+pub const MOST_FIELD: usize = 4;
+
 // The bytes of a duty's number in a record, and where the fields after it stand in a run's.
 pub const DUTY_FIELD: usize = 1;
 

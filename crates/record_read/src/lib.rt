@@ -16,7 +16,7 @@ ghost use Rattle.record_read.specs.Formed.{IsHead, Formed};
 
 use paper::limits::{
     DUTY_KIND, DUTY_LENGTH, END_KIND, END_LENGTH, FIRST_FIELD, HEAD_KIND, HEAD_LENGTH,
-    LENGTH_FIELD, RUN_KIND, RUN_LENGTH,
+    LENGTH_FIELD, MOST_FIELD, RUN_KIND, RUN_LENGTH,
 };
 use paper::{Duty, Reading, Row, Run};
 use std::marker::Model;
@@ -63,7 +63,7 @@ pub fn read_field<const N: usize>(b: &[u8], at: usize) -> u32
     ensures told { result ≡ num_at N b.now at }
     ensures bounded { result < 256 ^ N }
 {
-    let mut field = [0u8; 4];
+    let mut field = [0u8; MOST_FIELD];
     field[..N].copy_from_slice(&b[at..at + N]);
     u32::from_le_bytes(field)
 }

@@ -13,7 +13,8 @@ use paper::limits::MOST_ENGINES;
 // All rows that have edges: those that there may be, and one past them, which is idle.
 pub const EDGE_ROWS: usize = MOST_ENGINES + 1;
 
-// What holds an edge: nothing, or a duty by its number, which is one byte as in its record. So all edges are small enough to be handed back.
+// What holds an edge: nothing, or a duty by its number, which is one byte as in its record. So all edges are small enough to be handed
+// back.
 pub type Edge = Option<u8>;
 
 // What holds the first and the last unit of a row.

@@ -1,5 +1,5 @@
--- What the tests of a table's bytes come to, one after another: each that fails is the reader's fault, and where none fails the bytes are in
--- good form. `l` is the bytes once more, as the value that has a good head is seen.
+-- What the tests of a table's bytes come to, one after another: each that fails is the reader's fault, and where none fails the bytes are
+-- in good form. `l` is the bytes once more, as the value that has a good head is seen.
 -- Assumes nothing.
 use Prim.Native.Nat.{ℕ, ◌+◌, ◌≤◌, ◌<◌}
 use mathlib.Core.Path.{◌≡◌, refl, sym, ap, ◌∙◌}

@@ -1,5 +1,5 @@
--- The lines of what stands in a table have room. A number that is printed has at most 7 digits, so a line of n numbers has at most 8 n bytes
--- after its word, and there are at most 64 duties and 128 runs.
+-- The lines of what stands in a table have room. A number that is printed has at most 7 digits, so a line of n numbers has at most 8 n
+-- bytes after its word, and there are at most 64 duties and 128 runs.
 -- Assumes nothing.
 use Prim.Native.Nat.{ℕ, ◌+◌, ◌-◌, ◌≤◌, ◌<◌}
 use mathlib.Core.Path.{◌≡◌, refl, ap}

@@ -24,7 +24,8 @@ module _ (xs : List Run) (r : Row) (u : ℕ) where
       ∙ rw (add-one k) at (held_from_no xs r u k (omega arith) (c k (omega arith)))
 
   -- the run found holds the unit for its duty
-  pub held_found : (n k : ℕ) → n ≡ length xs → k ≡ first (λ j. covers (run_at xs j) r u) n → k < n → held_in xs r u ≡ Some (run_at xs k).duty
+  pub held_found : (n k : ℕ) → n ≡ length xs → k ≡ first (λ j. covers (run_at xs j) r u) n → k < n
+      → held_in xs r u ≡ Some (run_at xs k).duty
   held_found n k e f h =
       let test : ℕ → Bool = λ j. covers (run_at xs j) r u in
       held_skip k (omega arith) (rw f (first_clear test n))

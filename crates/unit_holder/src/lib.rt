@@ -9,7 +9,7 @@ use paper::{Held, Row};
 use record_read::{TableBytes, run_covers};
 
 // The run that holds a unit of a row: the first that does, or the number of runs where the unit is idle.
-// A `loop` that yields the index by `break`, not `search::lowest`: document 01 names this form for this place (docs/DECISIONS.md, the forms).
+// A `loop` that yields the index by `break`, not `search::lowest`: document 01 names this form for it (a; docs/DECISIONS.md, the forms).
 pub fn find_run(table: &TableBytes, row: Row, unit: u32) -> usize
     ensures { result ≡ first (λ k. covers (run_at table.now.runs k) row unit) (length table.now.runs) }
 {

@@ -40,7 +40,9 @@ loop-k-preserved c =
       search = more;
       listed = record {
         recent = rw (c.insert.ensures.last, run.told) (recent_more listed.recent (rw run.told at run.ranged.duty_below));
-        sorted = rw c.insert.ensures.pointers (sorted_more c.spot_of-spot.ensures (distinct (rowed ranged c.requires) more.clear more.within));
+        sorted =
+            rw c.insert.ensures.pointers
+            (sorted_more c.spot_of-spot.ensures (distinct (rowed ranged c.requires) more.clear more.within));
       };
     }
 

@@ -10,7 +10,9 @@ pub returns-in_default : goal.returns-in_default
 returns-in_default c = head_fault _ c.in_default.ensures
 
 pub returns-then-d-duties : goal.returns-then-d-duties
-returns-then-d-duties c = ap (refused 10) c.duty_place.ensures ∙ duty_fault c.in-Some.ensures c.duties.ensures.told c.bad_duty-d.ensures c.if-d-duties.true
+returns-then-d-duties c =
+    ap (refused 10) c.duty_place.ensures
+    ∙ duty_fault c.in-Some.ensures c.duties.ensures.told c.bad_duty-d.ensures c.if-d-duties.true
 
 pub returns-then-not-end_good : goal.returns-then-not-end_good
 returns-then-not-end_good c =

@@ -11,5 +11,6 @@ returns-then-idle-k c = omega (arith, seek_miss c.loop-k.invariant.1 (omega arit
 
 pub returns-then-run_covers : goal.returns-then-run_covers
 returns-then-run_covers c =
-    let has = ap (λ (x : Run). covers x c.args.row c.args.unit) (sym c.run.ensures.told) ∙ sym c.run_covers.ensures ∙ c.if-run_covers.true in
+    let read = ap (λ (x : Run). covers x c.args.row c.args.unit) (sym c.run.ensures.told) in
+    let has = read ∙ sym c.run_covers.ensures ∙ c.if-run_covers.true in
     seek_hit c.loop-k.invariant.1 (omega arith) has
