@@ -3,8 +3,10 @@
 
 ghost use Rattle.std.specs.Prelude.{◌≡◌, ◌+◌, ◌≤◌, length};
 ghost use Rattle.paper.specs.Limits.{most_engines};
+ghost use Rattle.paper.specs.Rotation.{first_of};
 ghost use Rattle.walk_laws.proofs.Page.{carried};
-ghost use Rattle.carried_over.specs.Carried.{closes_of, carried_in};
+ghost use Rattle.row_edges.specs.Links.{link_of};
+ghost use Rattle.carried_over.specs.Carried.{carried_of, closes_of, carried_in};
 
 use paper::{Chain, Row};
 use rotation::chain_of;
@@ -32,14 +34,11 @@ fn carried_in(edges: &Edges, chain: Chain) -> u32
     chain.length - 1
 }
 
-// At how many rows a duty of a judged table is carried over a boundary: those are no loads in any block but the first. The last row's chain
-// ends with it.
-pub fn carried(accepted: &Accepted) -> u32
-    ensures told { result ≡ carried accepted.now }
-    ensures few { result ≤ length accepted.now.runs }
+// At how many rows a duty is carried over a boundary: those are no loads in any block but the first. The last row's chain ends with it.
+pub fn carried(edges: &Edges, engines: u32) -> u32
+    requires { (engines ≤ most_engines) × (first_of (link_of edges.now) engines ≡ engines) }
+    ensures { (result ≡ carried_of edges.now engines) × (result ≤ engines) }
 {
-    let edges = accepted.edges();
-    let engines = accepted.table().reading().engines;
     let mut count = 0;
     let mut first = 0;
     while first < engines {
@@ -48,4 +47,13 @@ pub fn carried(accepted: &Accepted) -> u32
         first += chain.length;
     }
     count
+}
+
+// The same of a judged table.
+pub fn kept_over(accepted: &Accepted) -> u32
+    ensures told { result ≡ carried accepted.now }
+    ensures few { result ≤ length accepted.now.runs }
+{
+    let engines = accepted.table().reading().engines;
+    carried(accepted.edges(), engines)
 }

@@ -6,7 +6,7 @@ ghost use Rattle.paper.specs.Limits.{most_engines, chain_line_room, rotation_lin
 ghost use Rattle.paper.specs.Outcome.{Puts};
 ghost use Rattle.chain_lines.specs.Parts.{chain_lines, rotation_lines};
 
-use carried_over::carried;
+use carried_over::kept_over;
 use line_print::print_line;
 use paper::Row;
 use rotation::chain_of;
@@ -39,7 +39,7 @@ pub fn print_rotation(out: &mut [u8], accepted: &Accepted) -> usize
 {
     let at = print_chains(out, accepted);
     let runs = u64::from(accepted.table().reading().runs);
-    let kept = u64::from(carried(accepted));
+    let kept = u64::from(kept_over(accepted));
     let loads = [runs, runs - kept];
     at + print_line(&mut out[at..], b"loads", &loads)
 }

@@ -8,7 +8,7 @@ ghost use Rattle.paper.specs.Walk.{loads};
 ghost use Rattle.paper.specs.Answers.{count_of};
 ghost use Rattle.paper.specs.Outcome.{outcome_of};
 
-use carried_over::carried;
+use carried_over::kept_over;
 use paper::Refusal;
 use paper::limits::MOST_BLOCKS;
 use table_tally::Accepted;
@@ -30,7 +30,7 @@ fn loads_in(accepted: &Accepted, blocks: u64) -> u64
     if blocks == 0 {
         return 0;
     }
-    let kept = u64::from(carried(accepted));
+    let kept = u64::from(kept_over(accepted));
     over_blocks(blocks, u64::from(reading.runs), kept)
 }
 

@@ -36,7 +36,7 @@ returns c =
     let put = c.print_chains-at.ensures in
     let loads = c.print_line.ensures in
     let table = c.table.ensures in
-    let line = loads_told c.args.accepted.now table.ranged table.meets (runs-are at) (c.from-kept.ensures ∙ c.carried.ensures.told) in
+    let line = loads_told c.args.accepted.now table.ranged table.meets (runs-are at) (c.from-kept.ensures ∙ c.kept_over.ensures.told) in
     let chains = written _ _ _ _ put.puts.1 put.puts.0 in
     let both = grown _ _ _ chains (loads.0 ∙ ap length line) (by_name _ loads.1 line) in
     record { puts = all_written both; upper_bound = omega (arith, put.upper_bound, loads.0, fits at) }

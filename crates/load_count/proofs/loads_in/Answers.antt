@@ -17,7 +17,7 @@ runs-are c =
     c.from.ensures ∙ ap (λ r. r.runs) c.reading-reading.ensures.told ∙ ap (λ (t : Table). length t.runs) c.table.ensures.same
 
 kept-is : (c : After-from) → c.from-kept.result ≡ carried c.args.accepted.now
-kept-is c = c.from-kept.ensures ∙ c.carried.ensures.told
+kept-is c = c.from-kept.ensures ∙ c.kept_over.ensures.told
 
 pub returns-then-blocks-eq0 : goal.returns-then-blocks-eq0
 returns-then-blocks-eq0 c =
