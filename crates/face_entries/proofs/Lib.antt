@@ -1,1 +1,2 @@
 pub mod FromFn
+mod Opened

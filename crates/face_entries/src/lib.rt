@@ -3,14 +3,16 @@
 #![tactic(auto)]
 
 ghost use Rattle.std.specs.Prelude.{◌≡◌, [], ◌∷◌, ◌≤◌, length, ℕ, List};
+ghost use Rattle.laws.specs.Lists.{over};
 ghost use Rattle.paper.specs.Limits.{state_room};
+ghost use Rattle.paper.specs.Words.{row_numbers};
 ghost use Rattle.paper.specs.Outcome.{verdict_as, outcome_of};
 ghost use Rattle.paper.specs.Face.{Tells, entries, reading_entries, reply_entries, state_entries, share_reading_entries, held_entry};
 ghost use Rattle.face_entries.specs.InWord.{InWord};
 ghost use Rattle.face_entries.specs.Cut.{cut_state};
 
 use face_words::{held_entry, narrow, word_of};
-use paper::limits::{READING_ROOM, REPLY_ROOM, SHARE_READING_ROOM, STATE_ROOM, WORD_ROOM};
+use paper::limits::{MOST_ENGINES, READING_ROOM, REPLY_ROOM, SHARE_READING_ROOM, WORD_ROOM};
 use paper::{Dispatched, Held, Reading, Refusal, Reply, Row, ShareReading, State};
 use std::array;
 
@@ -97,18 +99,6 @@ impl Entries<SHARE_READING_ROOM> for ShareReading {
     }
 }
 
-// A dispatcher's state: the block, then the rows.
-impl Entries<STATE_ROOM> for State {
-    ghost told = { state_entries };
-
-    fn entries(self) -> [u64; STATE_ROOM] {
-        let State { block, rows } = self;
-        let mut entries = [block; STATE_ROOM];
-        entries[1..].copy_from_slice(&rows.map(|row| u64::from(row.0)));
-        entries
-    }
-}
-
 // A call's answer as a word, and as entries over the front of the lent list where it is no refusal.
 pub fn tell<const N: usize, A: Entries<N>>(outcome: Result<A, Refusal>, answer: &mut [u64]) -> u64
     requires fits { InWord outcome }
@@ -134,10 +124,28 @@ pub fn state_in(state: &[u64]) -> State
     State { block, rows }
 }
 
+// A block and its rows put into a lent state. No `Entries`: told so, a state is copied twice more, and a step took 447 ns for 349 (8 runs).
+fn put_state(state: &mut [u64], block: u64, rows: [Row; MOST_ENGINES])
+    requires { state_room ≤ length state.old }
+    ensures { state.new ≡ over (block ∷ row_numbers rows) state.old }
+{
+    state[0] = block;
+    for e in 0..MOST_ENGINES {
+        let row = rows[e];
+        state[e + 1] = u64::from(row.0);
+    }
+}
+
 // What a dispatcher hands back as a word, and as the entries of its state where it is done.
 pub fn hand_over(done: Dispatched, state: &mut [u64]) -> u64
     requires { InWord done.verdict × (state_room ≤ length state.old) }
     ensures { Tells (entries state_entries (verdict_as done.verdict done.state)) result state.old state.new }
 {
-    tell(done.verdict.map(|()| done.state), state)
+    match done.verdict {
+        Err(refusal) => word_of(refusal),
+        Ok(()) => {
+            put_state(state, done.state.block, done.state.rows);
+            0
+        }
+    }
 }

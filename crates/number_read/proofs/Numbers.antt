@@ -3,7 +3,7 @@
 -- Assumes nothing.
 use Prim.Native.Nat.{ℕ, zero, suc, ◌+◌, ◌-◌, ◌*◌, ◌^◌, ◌≤◌, ◌<◌}
 use mathlib.Core.Path.{◌≡◌, refl, sym, ap, ◌∙◌}
-use mathlib.Core.Bool.{Bool, true, false, not, ◌&&◌, ◌||◌}
+use mathlib.Core.Bool.{Bool, true, not, ◌&&◌, ◌||◌}
 use mathlib.Core.List.{List, [], ◌∷◌}
 use native.Mathlib.Nat.{not-suc-le-zero, le_of_suc-le-suc, pow-suc, mul-le-mul_right, pow-le-pow_right}
 use native.Mathlib.Numerals.{add-one}
@@ -91,11 +91,6 @@ pub next_below : (v : ℕ) (c : List ℕ) (i : ℕ) → is_number c ≡ true →
     → v * 10 + (get_or c i 0 - 48) < 10 ^ most_digits
 next_below v c i p h e =
     omega (arith, number_below c p, value_step v c i h, value_least (drop (i + 1) c) (v * 10 + (get_or c i 0 - 48)))
-
--- no bytes write no number
-pub number_none : (c : List ℕ) → length c ≤ 0 → is_number c ≡ false
-number_none [] h = refl
-number_none (x ∷ xs) h = absurd (omega arith)
 
 -- where there are some, all but one of the tests are left
 pub number_some : (c : List ℕ) → 1 ≤ length c

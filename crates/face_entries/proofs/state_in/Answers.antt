@@ -10,4 +10,4 @@ use Rattle.face_entries.proofs.state_in.Goals as goal
 pub returns : goal.returns
 returns c =
     let entry = λ (e : ℕ). row (cut_row c.args.state.now e) in
-    rw (from_fn_tab _ _ entry (λ i y q k. search rules) (row 0) _ most_engines c.from_fn-rows.ensures.items)
+    rw (from_fn_tab _ _ entry (λ i y q k. search rules) (row 0) c.from_fn-rows.result most_engines c.from_fn-rows.ensures.items)

@@ -1,11 +1,8 @@
 -- `is_number`: some bytes, at most nine, all digits, and no zero before others.
 use mathlib.Core.Path.{sym}
 use borrow.Author.Rules.{rules}
-use Rattle.number_read.proofs.Numbers.{all_are_digits, number_none, number_some}
+use Rattle.number_read.proofs.Numbers.{all_are_digits, number_some}
 use Rattle.number_read.proofs.is_number.Goals as goal
-
-pub returns-then-is_empty : goal.returns-then-is_empty
-returns-then-is_empty c = sym (number_none c.args.c.now (search rules))
 
 pub returns : goal.returns
 returns c =

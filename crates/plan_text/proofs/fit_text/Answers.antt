@@ -1,6 +1,5 @@
 -- `fit_text`: the text is made apart; of a buffer with room for it, it then covers the front.
 use mathlib.Core.Path.{sym, ap, ◌∙◌}
-use native.Mathlib.Omega.{arith}
 use lib.ListN.{length}
 use Rattle.laws.specs.Lists.{over}
 use Rattle.paper.specs.Text.{plan_text}
@@ -14,16 +13,6 @@ returns-then-out-n c =
     let put = c.print_text-n in
     let short = fitted_short _ put.result (plan_text c.args.accepted.now) put.ensures.puts.0 (search rules) in
     writes_refused _ c.args.out.now short
-
-pub slice_bounds-put_bytes-end : goal.slice_bounds-put_bytes-end
-slice_bounds-put_bytes-end c =
-    let puts = c.print_text-n.ensures.puts in
-    puts.0 ∙ ap length (sym (front_is _ _ _ _ puts.0 puts.1))
-
-pub put_bytes-requires : goal.put_bytes-requires
-put_bytes-requires c =
-    let puts = c.print_text-n.ensures.puts in
-    rw (front_is _ _ _ _ puts.0 puts.1) (omega (arith, puts.0))
 
 pub returns : goal.returns
 returns c =

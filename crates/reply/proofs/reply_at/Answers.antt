@@ -1,29 +1,16 @@
 -- `reply_at`: the row of the tick's block, and what holds the tick's unit on it.
-use Prim.Native.Nat.{ℕ, ◌%◌, ◌≤◌, ◌<◌}
+use Prim.Native.Nat.{◌<◌}
 use mathlib.Core.Path.{◌≡◌, refl, ap, ◌∙◌}
-use native.Mathlib.Nat.{mod-lt}
 use native.Mathlib.Omega.{arith}
-use Rattle.std.proofs.Common.{Fits, w32}
-use Rattle.paper.specs.Limits.{most_ticks}
 use Rattle.paper.specs.Words.{Table}
 use Rattle.reply.proofs.Replying.{reply_is}
 use Rattle.reply.proofs.reply_at.Goals as goal
 use Rattle.reply.proofs.reply_at.Goals.{After-from-t}
 
--- a unit of a block fits 32 bits, whatever the tick
-unit-fits : (k t : ℕ) → 1 ≤ t → t ≤ most_ticks → Fits w32 (k % t)
-unit-fits k t l m = omega (arith, mod-lt k {m = t} l)
-
 -- the reading's block length is the table's
 ticks-are : (c : After-from-t) → c.from-t.result ≡ c.args.accepted.now.ticks
 ticks-are c =
     c.from-t.ensures ∙ ap (λ r. r.block_length) c.reading-reading.ensures.told ∙ ap (λ (t : Table). t.ticks) c.table-table.ensures.same
-
-pub overflow_cast-tick : goal.overflow_cast-tick
-overflow_cast-tick c =
-    let ticks = ticks-are (goal.at.overflow_cast-tick c).After-from-t in
-    let ranged = c.table-table.ensures.ranged in
-    unit-fits _ _ (omega (arith, ticks, ranged.ticks_least)) (omega (arith, ticks, ranged.ticks_most))
 
 pub returns : goal.returns
 returns c =
