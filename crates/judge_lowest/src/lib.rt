@@ -11,7 +11,7 @@ ghost use Rattle.table_tally.specs.Tally.{units_in};
 use paper::limits::MOST_DUTIES;
 use record_read::TableBytes;
 use search::lowest;
-use slices::share_of;
+use slices::{is_whole, share_of};
 
 // 11. Whether T does not divide every period.
 pub fn is_undivided(table: &TableBytes) -> bool
@@ -27,9 +27,7 @@ pub fn bad_slice(table: &TableBytes) -> usize
     ensures { result ≡ bad_slice table.now.ticks table.now.duties }
 {
     let t = table.reading().block_length;
-    lowest(0, table.duties(), |d| {
-        share_of(t, table.duty(d)).rest != 0
-    })
+    lowest(0, table.duties(), |d| !is_whole(t, table.duty(d)))
 }
 
 // 17. The lowest duty whose runs do not add up to its slice, by the units of each duty, or how many duties there are.

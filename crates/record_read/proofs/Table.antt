@@ -30,6 +30,9 @@ parts : (b : List ℕ) (n k : ℕ) → table_in small b n k ≡ by_parts b n k
 unfolding table_in
 parts b n k = refl
 
+pub table_runs : (b : List ℕ) (rd : Reading) → length (table_of b rd).runs ≡ rd.runs
+table_runs b rd = ap (λ x. length x.runs) (parts b rd.duties rd.runs) ∙ length-tab rd.runs _
+
 -- where the table in the bytes is t: its reading is the one told, and a duty or a run of it is what stands in the bytes at its place
 module _ {b : List ℕ} {rd : Reading} {t : Table} (F : Formed b rd) (seen : table_of b rd ≡ t) where
   is : t ≡ by_parts b rd.duties rd.runs

@@ -20,18 +20,20 @@ pub record Passed (p : Pace) (to : ℕ) (units cuts : List ℕ) (q : Pace) (unit
   pub last : (b : ℕ) → b + 1 ≡ to → p.block ≤ b → units' ≡ over (allotments p.sharing b) units
   pub kept : CutsKept p.sharing p.block to cuts cuts'
 
--- one of them does, and it is the first; the cuts of those before it are kept
-pub record Stopped (p : Pace) (to : ℕ) (cuts : List ℕ) (why : Refusal) (cuts' : List ℕ) : Type 0 where
+-- one of them does, and it is the first; the block after it is next, and the cuts of those before it are kept
+pub record Stopped (p : Pace) (to : ℕ) (cuts : List ℕ) (why : Refusal) (q : Pace) (cuts' : List ℕ) : Type 0 where
   pub block : ℕ
+  pub least : p.block ≤ block
   pub told : why ≡ ShareBlock block
   pub most : block < to
   pub clear : (b : ℕ) → p.block ≤ b → b < block → short_at p.sharing b ≡ false
   pub stopped : short_at p.sharing block ≡ true
+  pub paced : q ≡ pace p.sharing (block + 1)
   pub kept : CutsKept p.sharing p.block block cuts cuts'
 
 abbrev pub Passes : Pace → ℕ → (units cuts : List ℕ) → Result ⊤ Refusal → Pace → (units' cuts' : List ℕ) → Type 0
 Passes p to units cuts (Ok u) q units' cuts' = Passed p to units cuts q units' cuts'
-Passes p to units cuts (Err why) q units' cuts' = Stopped p to cuts why cuts'
+Passes p to units cuts (Err why) q units' cuts' = Stopped p to cuts why q cuts'
 
 -- what the first n blocks allot, block by block
 abbrev pub allotted : Sharing → ℕ → List ℕ

@@ -5,6 +5,7 @@ ghost use Rattle.std.specs.Prelude.{◌≡◌, ◌*◌, ◌≤◌, length};
 ghost use Rattle.laws.specs.Lists.{over};
 ghost use Rattle.paper.specs.Sa2.{duty_count};
 ghost use Rattle.share_laws.specs.Cut.{HasCuts};
+ghost use Rattle.share_block.specs.Paced.{pace};
 ghost use Rattle.share_pass.specs.Passing.{Passes, allotted};
 
 use paper::Refusal;
@@ -39,7 +40,8 @@ pub fn put_blocks(paces: &mut Paces, blocks: u32, cuts: &[u8], list: &mut [u32])
     requires start { paces.old.block ≡ 0 }
     requires room { (blocks ≤ length cuts.now) × (blocks * duty_count paces.old.sharing ≤ length list.old) }
     requires has_cuts { HasCuts paces.old.sharing 0 blocks cuts.now }
-    ensures { list.new ≡ over (allotted paces.old.sharing blocks) list.old }
+    ensures written { list.new ≡ over (allotted paces.old.sharing blocks) list.old }
+    ensures next { paces.new ≡ pace paces.old.sharing blocks }
 {
     let duties = paces.duty_count();
     let mut at = 0;

@@ -36,7 +36,7 @@ module _ {s : Sharing} (c : InBlocks s) where
 
   module _ {p : Pace} (e : p ≡ pace s 0) where
     -- the first pass stops
-    pub look_stopped : {to : ℕ} {cuts cuts' : List ℕ} {why : Refusal} → Stopped p to cuts why cuts' → to ≤ blocks s
+    pub look_stopped : {to : ℕ} {cuts cuts' : List ℕ} {why : Refusal} {q : Pace} → Stopped p to cuts why q cuts' → to ≤ blocks s
         → steady s ≡ refused_as why
     look_stopped t l =
         let u = rw e at t in

@@ -79,6 +79,15 @@ pub fn length_meant(wish: u32, greatest: u32) -> u32
     if wish == 0 { greatest } else { wish }
 }
 
+// Whether a duty's slice T·C/D is whole. T·C has 40 bits at the most.
+#[tactic(auto, unfolding(paper::specs::Words::whole))]
+pub fn is_whole(t: u32, x: Duty) -> bool
+    requires { (t ≤ most_ticks) × (x.service ≤ most_ticks) × (0 < x.period) }
+    ensures { result ≡ whole t x }
+{
+    u64::from(t) * u64::from(x.service) % u64::from(x.period) == 0
+}
+
 // A duty's share of a block, T·C/D: whole units, and the part of a unit, in D-ths. Its slice is whole where there is no such part.
 #[derive(Clone, Copy, Debug, PartialEq, Eq)]
 pub struct Share {

@@ -1,13 +1,13 @@
 -- `put_blocks`: each block is SA2's next, by the cut that was kept of it, and is written where the one before has stopped.
 use Prim.Native.Nat.{◌+◌, ◌≤◌, ◌<◌}
-use mathlib.Core.Path.{ap}
+use mathlib.Core.Path.{◌≡◌, ap, ◌∙◌}
 use native.Mathlib.Omega.{arith}
 use borrow.Author.Rules.{rules}
 use lib.ListN.{length}
 use Rattle.std.proofs.lemmas.List.{length-take}
 use Rattle.laws.proofs.Writing.{length-lent}
 use Rattle.paper.specs.Sa2.{duty_count}
-use Rattle.share_block.specs.Paced.{Pace}
+use Rattle.share_block.specs.Paced.{Pace, pace}
 use Rattle.share_pass.proofs.Putting.{putting_none, putting_room, putting_more, putting_end}
 use Rattle.share_pass.proofs.put_blocks.Goals as goal
 use Rattle.share_pass.proofs.put_blocks.Goals.{In-loop-cut}
@@ -52,4 +52,9 @@ loop-cut-preserved c =
 
 pub returns : goal.returns
 returns c =
-    putting_end c.loop-cut.invariant (omega (arith, c.loop-cut-test.false, c.requires.room.0, length-take c.args.blocks c.args.cuts.now))
+    let all = length-take c.args.blocks c.args.cuts.now in
+    let end : c.loop-cut.cut-index ≡ c.args.blocks = omega (arith, c.loop-cut-test.false, c.requires.room.0, all, c.loop-cut.auto) in
+    record {
+      written = putting_end c.loop-cut.invariant (omega arith);
+      next = c.loop-cut.invariant.paced ∙ ap (pace c.args.paces.now.sharing) end;
+    }
