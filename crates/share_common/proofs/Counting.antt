@@ -107,7 +107,7 @@ module _ (s : Sharing) (k : Shareable s) where
       lt-ltb most_share_blocks n (lt_of_mul-lt-mul_right t more))
 
   -- 22
-  many : (lcm_of (periods_of s.duties) ≤ most_share_blocks * s.ticks → ⊥) → sharable s ≡ refused 22 0
+  pub many : (lcm_of (periods_of s.duties) ≤ most_share_blocks * s.ticks → ⊥) → sharable s ≡ refused 22 0
   unfolding sharable
   many h = by_cases (ltb most_share_blocks (blocks s)) (λ p. rw p) (λ p. absurd (h (ltb-false _ _ (sym many_is ∙ p))))
 
@@ -133,11 +133,11 @@ module _ (s : Sharing) (k : Shareable s) where
       overloaded_is = sym (told ∙ ap (λ (l : ℕ). ltb (s.engines * l) (asked_in l s.duties)) e)
 
       -- 7
-      much : over ≡ true → sharable s ≡ refused 7 0
+      pub much : over ≡ true → sharable s ≡ refused 7 0
       unfolding sharable
       much p = rw (few, overloaded_is, p)
 
-      fits : over ≡ false → sharable s ≡ answer s
+      pub fits : over ≡ false → sharable s ≡ answer s
       unfolding sharable
       fits p = rw (few, overloaded_is, p)
 
@@ -162,16 +162,5 @@ module _ (x : Wanted) (ds : List Duty) (t : ℕ) (e : answer ds ≡ taken x) (f 
         few = omega (arith, n, z.0.counts.duties);
       }
 
-  shared_is : shared x ≡ sharable s
+  pub shared_is : shared x ≡ sharable s
   shared_is = rw (← e, f)
-
-  pub too_many : (lcm_of (periods_of ds) ≤ most_share_blocks * t → ⊥) → shared x ≡ refused 22 0
-  too_many h = shared_is ∙ many s taken_shareable h
-
-  module _ (n : ℕ) (c : n ≡ lcm_of (periods_of ds)) (h : lcm_of (periods_of ds) ≤ most_share_blocks * t)
-      (over : Bool) (told : over ≡ ltb (x.engines * n) (asked_in n ds)) where
-    pub too_much : over ≡ true → shared x ≡ refused 7 0
-    too_much p = shared_is ∙ much s taken_shareable n c h over told p
-
-    pub shared_out : over ≡ false → shared x ≡ answer s
-    shared_out p = shared_is ∙ fits s taken_shareable n c h over told p

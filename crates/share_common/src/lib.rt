@@ -6,8 +6,8 @@ ghost use Rattle.laws.specs.Divisor.{lcm, lcm_of};
 ghost use Rattle.paper.specs.Duties.{asks, asked_in, periods_of};
 ghost use Rattle.paper.specs.Limits.{most_engines, most_ticks, most_share_blocks};
 ghost use Rattle.paper.specs.Outcome.{outcome_of};
-ghost use Rattle.paper.specs.Sa2.{duty_count, duty_of};
-ghost use Rattle.paper.specs.Shares.{blocks, shared};
+ghost use Rattle.paper.specs.Sa2.{sharing, duty_count, duty_of};
+ghost use Rattle.paper.specs.Shares.{blocks, sharable, shared};
 ghost use Rattle.paper.specs.Statements.{DutyRanged};
 ghost use Rattle.paper.specs.Wanted.{wanted};
 ghost use Rattle.share_common.specs.Common.{Shareable, Counted};
@@ -84,6 +84,26 @@ impl<'a> Model for Sharing<'a> {
 }
 
 impl<'a> Sharing<'a> {
+    // Duties that were taken, in blocks whose length divides their periods: 22 where the blocks are too many, then 7 where the duties need
+    // more than the engines have.
+    pub fn new(ticks: u32, engines: u32, duties: Duties<'a>) -> Result<Sharing<'a>, Refusal>
+        requires { Shareable (sharing ticks engines duties) }
+        ensures { outcome_of result ≡ sharable (sharing ticks engines duties.entry) }
+    {
+        let Some(common) = common_of(ticks, &duties) else {
+            return Err(Refusal::ManyShareBlocks);
+        };
+        if is_overload(engines, &duties, common) {
+            return Err(Refusal::Overload);
+        }
+        Ok(Sharing {
+            ticks,
+            engines,
+            blocks: common / ticks,
+            duties,
+        })
+    }
+
     // The block length.
     pub fn ticks(&self) -> u32
         ensures value { result ≡ self.now.ticks }
@@ -126,8 +146,7 @@ impl<'a> Sharing<'a> {
     }
 }
 
-// Takes the duties of the two lists for blocks of the periods' greatest common divisor: 1 to 5, then 22 where the blocks are too many, then
-// 7 where the duties need more than the engines have.
+// Takes the duties of the two lists for blocks of the periods' greatest common divisor: 1 to 5, then 22 and 7.
 pub fn take_sharing<'a>(
     engines: u32,
     services: &'a [u32],
@@ -137,16 +156,5 @@ pub fn take_sharing<'a>(
 {
     let duties = take_duties(engines, services, periods)?;
     let ticks = duties.greatest();
-    let Some(common) = common_of(ticks, &duties) else {
-        return Err(Refusal::ManyShareBlocks);
-    };
-    if is_overload(engines, &duties, common) {
-        return Err(Refusal::Overload);
-    }
-    Ok(Sharing {
-        ticks,
-        engines,
-        blocks: common / ticks,
-        duties,
-    })
+    Sharing::new(ticks, engines, duties)
 }
