@@ -1,4 +1,5 @@
 // The rows of all engines in a block, worked out from the block's number, chain by chain.
+// `as` stands where std has no `From` (32 bits to usize, usize to u64), or where it is proved that nothing is lost (d).
 #![tactic(auto)]
 
 ghost use Rattle.std.specs.Prelude.{◌≡◌, ◌≤◌};

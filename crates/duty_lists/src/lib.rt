@@ -1,4 +1,5 @@
 // What stands in the builder's two lists, services and periods: the duties, and tests 1 to 5, after which they are taken.
+// `as` stands where std has no `From` (32 bits to usize, usize to u64), or where it is proved that nothing is lost (d).
 #![tactic(auto)]
 
 ghost use Rattle.std.specs.Prelude.{◌≡◌, ◌<◌, length};

@@ -1,5 +1,6 @@
 // Lists that a caller of the face lends: the entries of answers told; a dispatcher's state, the block and then the rows, taken and put; and
 // what a dispatcher hands back, handed over.
+// `as` stands where std has no `From` (32 bits to usize, usize to u64), or where it is proved that nothing is lost (d).
 #![tactic(auto)]
 
 ghost use Rattle.std.specs.Prelude.{◌≡◌, [], ◌∷◌, ◌≤◌, length, ℕ, List};

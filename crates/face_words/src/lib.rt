@@ -1,5 +1,6 @@
 // Words and entries one at a time: a refusal as the word that a call returns, an entry of a lent state as a row number, and what holds a
 // tick as an entry.
+// `as` stands where std has no `From` (32 bits to usize, usize to u64), or where it is proved that nothing is lost (d).
 #![tactic(auto)]
 
 ghost use Rattle.std.specs.Prelude.{◌≡◌, ◌+◌, ◌*◌, ◌≤◌, min};
@@ -26,14 +27,15 @@ pub fn too_short(needed: usize) -> u64
     word_of(Refusal::Lent(needed))
 }
 
-// An entry of a lent state as a row number; one that is too large becomes a number that no row has.
+// An entry of a lent state as a row number; one that is too large becomes a number that no row has. No Option (a): the
+// judge is to refuse such a state, and looks at all its rows.
 pub fn narrow(x: u64) -> u32
     ensures { result ≡ min x no_row }
 {
     u32::try_from(x).unwrap_or(NO_ROW)
 }
 
-// What holds a tick as one entry: the duty, or the mark for idle.
+// What holds a tick as one entry: the duty, or the mark for idle, which is the C interface's (a).
 pub fn held_entry(held: Held) -> u64
     ensures { result ≡ held_entry held }
 {

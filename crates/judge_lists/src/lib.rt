@@ -1,6 +1,7 @@
 // A duty's runs as they are kept for rule 16: the runs of a table are taken one after the other, and each duty's earlier runs stand in a
 // list, sorted by first unit. As long as no run breaks the rule these share no unit with one another, so a run is held against two of them
 // alone: the last that starts before it, and the first that does not.
+// `as` stands where std has no `From` (32 bits to usize, usize to u64), or where it is proved that nothing is lost (d).
 #![tactic(auto)]
 
 ghost use Rattle.std.specs.Prelude.{◌≡◌, ◌+◌, ◌≤◌, ◌<◌, length, get_or, set};
@@ -18,8 +19,8 @@ use record_read::TableBytes;
 // Each duty's runs in a sorted list. All lists stand in one array of pointers: at i that of run i, and behind the runs each duty's front. A
 // pointer is 0 at the end of a list, else the next run's number and 1. A second array has, as a pointer, the last run of each duty: on a
 // row the runs come by first unit, so a search mostly begins right before its end.
-// Places in an array, and not boxes that own one another, since nothing here takes memory from a heap; and numbers, 0 for none, and not
-// Options, since the theorems on sorted lists (laws, SortedLists), which may not change, are said of such numbers.
+// Places in an array, and not boxes that own one another (a): nothing here takes memory from a heap. And numbers, 0 for none, and not
+// Options (a): the theorems on sorted lists (laws, SortedLists) are said of such numbers.
 #[derive(Drop)]
 pub struct Lists {
     last: [u16; MOST_DUTIES],

@@ -1,5 +1,6 @@
 // Rule 16: the lowest run of a table that shares a unit with an earlier run of its duty on another row, by the duty's earlier runs kept in
 // sorted lists.
+// `as` stands where std has no `From` (32 bits to usize, usize to u64), or where it is proved that nothing is lost (d).
 #![tactic(auto)]
 
 ghost use Rattle.std.specs.Prelude.{◌≡◌, ◌≤◌, length};
@@ -9,7 +10,7 @@ use judge_lists::Lists;
 use record_read::TableBytes;
 
 // 16. The lowest run that shares a unit with an earlier run of its duty on another row, or how many runs there are. No two runs of a row
-// share a unit.
+// share a unit. A loop and no `search::lowest` (d): each run that passes goes into the lists before the next is looked at.
 pub fn lowest_twice(table: &TableBytes) -> usize
     requires { length table.now.runs ≤ lowest overlaps table.now.runs }
     ensures { result ≡ lowest twice table.now.runs }

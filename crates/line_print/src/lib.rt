@@ -1,5 +1,6 @@
 // A printed line: a word, then each number after a space, in decimal, and a line feed. It is written at the front of a
 // lent rest, and the writer tells how many bytes it took. The line of a refusal, which any part of the program may print.
+// `as` stands where std has no `From` (32 bits to usize, usize to u64), or where it is proved that nothing is lost (d).
 #![tactic(auto)]
 
 ghost use Rattle.std.specs.Prelude.{◌≤◌, [], ◌∷◌, length};

@@ -1,4 +1,5 @@
 // A number printed in decimal after a space, at the front of a lent rest; the writer tells how many bytes it took.
+// `as` stands where std has no `From` (32 bits to usize, usize to u64), or where it is proved that nothing is lost (d).
 #![tactic(auto)]
 
 ghost use Rattle.std.specs.Prelude.{◌≡◌, ◌≤◌, length};
@@ -7,7 +8,8 @@ ghost use Rattle.paper.specs.Text.{decimal};
 ghost use Rattle.paper.specs.Outcome.{Puts};
 ghost use Rattle.number_print.specs.Spaced.{spaced};
 
-// How many digits a number has in decimal. Not by the kit's `itoa`: the wrong program `leading_zero` has no place in it.
+// How many digits a number has in decimal. Not by the kit's `itoa` (a): the wrong
+// program `leading_zero` has no place in it.
 fn digit_count(n: u64) -> usize
     ensures { (result ≡ length (decimal n)) × (result ≤ word_digits) }
 {

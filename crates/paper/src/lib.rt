@@ -187,6 +187,7 @@ pub struct State {
 }
 
 // What a dispatcher hands back: a verdict, and the state. A refusal holds block 0 and rows all 0.
+// No Result of a state (a): document 01 says what the state of a refusal holds, and `dispatch_state/refusal_tells_a_block` tells another.
 #[derive(Clone, Copy, Debug, PartialEq, Eq)]
 pub struct Dispatched {
     pub verdict: Result<(), Refusal>,
@@ -194,7 +195,7 @@ pub struct Dispatched {
 }
 
 // What stands in the plan program's input: the engines, how many duties, and the service and the period of each; past the last duty
-// they are 0.
+// they are 0. Two lists and a count (a): a fixed memory, and the builder reads two lists.
 #[derive(Clone, Copy, Debug, PartialEq, Eq)]
 pub struct Input {
     pub engines: u32,

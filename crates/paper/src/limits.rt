@@ -1,5 +1,6 @@
 // Every range and every length that code has, once; `specs/Limits.antt` has the same for definitions and contracts. What is said of one in
 // a contract is proved of the other, so that neither can be changed alone.
+// `as` stands where std has no `From` (32 bits to usize, usize to u64), or where it is proved that nothing is lost (d).
 
 // Engines (and rows), duties and runs of a table; rows once more, as a row's number is counted.
 pub const MOST_ENGINES: usize = 32;

@@ -1,4 +1,5 @@
 // The plan program: a duty set on standard input, its plan or `refused NUMBER PLACE` on standard output.
+// `as` stands where std has no `From` (32 bits to usize, usize to u64), or where it is proved that nothing is lost (d).
 #![tactic(auto)]
 
 ghost use Rattle.std.specs.Prelude.{◌≤◌, length};

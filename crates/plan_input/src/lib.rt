@@ -1,5 +1,6 @@
 // The plan program's input: from bytes of any kind to engines and duties, or to the first faulty line. First a line's end
 // is looked for, then the line is judged and read as a part of the bytes of its own.
+// `as` stands where std has no `From` (32 bits to usize, usize to u64), or where it is proved that nothing is lost (d).
 #![tactic(auto)]
 
 ghost use Rattle.std.specs.Prelude.{◌≡◌};

@@ -1,5 +1,6 @@
 // The records of a table as they are read: each is one byte of kind and a body, read as a struct at an offset. Numbers are
 // little-endian. And what bytes in good form give to those who read on: where each record stands, and the duties and runs in them.
+// `as` stands where std has no `From` (32 bits to usize, usize to u64), or where it is proved that nothing is lost (d).
 #![tactic(auto)]
 
 ghost use Rattle.std.specs.Prelude.{◌≡◌, ◌+◌, ◌^◌, ◌<◌, ◌≤◌, length};

@@ -1,5 +1,6 @@
 // The records of a table, each by itself, as fault 10 looks at them: all its bytes are there, it is of its kind and holds no field
 // out of range.
+// `as` stands where std has no `From` (32 bits to usize, usize to u64), or where it is proved that nothing is lost (d).
 #![tactic(auto)]
 
 ghost use Rattle.std.specs.Prelude.{◌≡◌, ◌+◌, ◌≤◌, MatchOption, IsTrue, length, false, true, ◌&&◌};

@@ -1,5 +1,6 @@
 // The reply to the direct question: which duty an engine runs at a tick, and on which row, of a judged table. One search for the
 // run that holds the unit is all that looks at the runs, whatever the tick.
+// `as` stands where std has no `From` (32 bits to usize, usize to u64), or where it is proved that nothing is lost (d).
 #![tactic(auto)]
 
 ghost use Rattle.std.specs.Prelude.{◌≡◌};

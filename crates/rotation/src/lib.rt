@@ -1,5 +1,6 @@
 // The rotation: the chains of rows, and which row an engine runs in a block. It needs no more of a table than what holds the
 // first and the last unit of each row, as the tally tells it.
+// `as` stands where std has no `From` (32 bits to usize, usize to u64), or where it is proved that nothing is lost (d).
 #![tactic(auto)]
 
 ghost use Rattle.std.specs.Prelude.{◌≡◌, ◌+◌, ◌%◌, ◌≤◌, ◌<◌};

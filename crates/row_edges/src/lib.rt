@@ -1,5 +1,6 @@
 // The edges of rows, and their links: which row is chained to the one before it, by what holds the first and the last unit of each row, as
 // the tally tells it.
+// `as` stands where std has no `From` (32 bits to usize, usize to u64), or where it is proved that nothing is lost (d).
 #![tactic(auto)]
 
 ghost use Rattle.std.specs.Prelude.{◌≡◌, ◌≤◌, ◌<◌};

@@ -1,4 +1,5 @@
 // SA2 over many blocks: up to the first that comes short, with the cuts kept; or all of them into a list, by their cuts.
+// `as` stands where std has no `From` (32 bits to usize, usize to u64), or where it is proved that nothing is lost (d).
 #![tactic(auto)]
 
 ghost use Rattle.std.specs.Prelude.{◌≡◌, ◌*◌, ◌≤◌, length};

@@ -1,4 +1,5 @@
 // Plans of shares by SA2: the builder of shares, and the question to its plan. Tests 1 to 5 come first, then 22 and 7.
+// `as` stands where std has no `From` (32 bits to usize, usize to u64), or where it is proved that nothing is lost (d).
 #![tactic(auto)]
 
 ghost use Rattle.std.specs.Prelude.{◌≡◌, length};

@@ -7,7 +7,7 @@ ghost use Rattle.paper.specs.Limits.{most_engines, most_duties, most_ticks};
 ghost use Rattle.share_turn.specs.Taking.{wants_by, chosen_by, next_by};
 
 // An amount of units, for a duty of period D: whole ones, and a part of one in D-ths. A duty's share of a block is one, and its need, whose
-// whole units are raised by 1.
+// whole units are raised by 1. (d: `slices::Share` is T·C/D alone, and no need.)
 #[derive(Clone, Copy, Debug, PartialEq, Eq)]
 pub struct Amount {
     pub whole: u32,
@@ -39,7 +39,8 @@ pub fn is_chosen(t: u32, need: Amount, place: u32, cut: u32) -> bool
     wants_more(t, need) & (place < cut)
 }
 
-// What a duty's turn comes to: the units that it gets, its need before the next block, and whether it would get -1 units.
+// What a duty's turn comes to: the units that it gets, its need before the next block, and whether it would get -1 units. No Option of the
+// units (d): where it would, 0 is written for it all the same, so that the loop has no branch.
 #[derive(Clone, Copy, Debug, PartialEq, Eq)]
 pub struct Turn {
     pub units: u32,

@@ -1,5 +1,6 @@
 // Arithmetic of a plan: a number's and a duty's ranges, and why a duty is out of range; the greatest common divisor, and the block length
 // that is meant; a duty's share.
+// `as` stands where std has no `From` (32 bits to usize, usize to u64), or where it is proved that nothing is lost (d).
 #![tactic(auto)]
 
 ghost use Rattle.std.specs.Prelude.{◌≡◌, List, ◌*◌, ◌/◌, ◌%◌, ◌≤◌, ◌<◌, eqb};
@@ -14,7 +15,7 @@ ghost use Rattle.paper.specs.Bytes.{within, duty_ranged};
 use paper::limits::MOST_TICKS;
 use paper::{Duty, Refusal};
 
-// Whether a number is from low to high.
+// Whether a number is from low to high. No `RangeInclusive::contains` (d): this is the definitions' `within`, by its own words.
 pub fn is_within(low: usize, high: usize, v: usize) -> bool
     ensures { result ≡ within low high v }
 {
@@ -72,7 +73,7 @@ pub fn gcd_of_all(periods: &[u32]) -> u32
     g
 }
 
-// The block length that a wish means, where the greatest is known: 0 means that one.
+// The block length that a wish means, where the greatest is known: 0 means that one. No Option (a): C callers say 0.
 pub fn length_meant(wish: u32, greatest: u32) -> u32
     ensures { result ≡ pick (eqb wish 0) greatest wish }
 {

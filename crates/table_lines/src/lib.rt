@@ -1,4 +1,5 @@
 // The lines of a plan that tell what stands in a table: one for the plan, one for each duty and one for each run.
+// `as` stands where std has no `From` (32 bits to usize, usize to u64), or where it is proved that nothing is lost (d).
 #![tactic(auto)]
 
 ghost use Rattle.std.specs.Prelude.{◌≤◌, length};
@@ -9,8 +10,8 @@ ghost use Rattle.table_lines.specs.Parts.{duty_lines, run_lines, table_lines};
 use line_print::print_line;
 use record_read::TableBytes;
 
-// The duties, one line each: number, service, period. The runs below have a loop of their own: tried as one function over a closure that
-// answers a line's numbers, which the check does not cover, since the bound `Fn` names the length of that array.
+// The duties, one line each: number, service, period. The runs below have a loop of their own (c): tried as one function over a closure
+// that answers a line's numbers, which the check does not cover, since the bound `Fn` names the length of that array.
 fn print_duties(out: &mut [u8], table: &TableBytes) -> usize
     requires { duty_lines_room ≤ length out.old }
     ensures puts { Puts (duty_lines table.now) out.old out.new result }

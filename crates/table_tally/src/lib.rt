@@ -1,5 +1,6 @@
 // One pass over the runs of a table: the units of each duty, for the judge, and what holds the first and the last unit of each row, for the
 // rotation. And a table that meets the rules, with its rows' edges, as those who ask on take it.
+// `as` stands where std has no `From` (32 bits to usize, usize to u64), or where it is proved that nothing is lost (d).
 #![tactic(auto)]
 
 ghost use Rattle.std.specs.Prelude.{◌≡◌, ◌≤◌, ◌<◌, Some};

@@ -1,6 +1,7 @@
 // The outside face, for C and Rust: include/tickplume.h says what each function takes, answers and refuses. A slice passes
 // as a pointer and a length. The returned word is 0, or a refusal's number in the low eight bits and its place above them;
-// a refused call writes nothing.
+// a refused call writes nothing. Each call tests the room of what it was lent by itself (d): a function over them would take the call as a
+// closure, and say no less.
 #![tactic(auto)]
 
 ghost use Rattle.std.specs.Prelude.{◌≡◌};
