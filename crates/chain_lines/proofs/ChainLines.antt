@@ -74,17 +74,7 @@ chained_end c m {l} {xs} {at} {k} s h =
     let all : Wrote (lines_below c m m) l [] xs at = subst (λ j. Wrote (lines_below c m j) l [] xs at) z s.wrote in
     (all_written all, omega (arith, s.most))
 
--- a chain's line, by its numbers, and how long it is
-pub chain_is : (x : Chain) {first long : ℕ} → first ≡ x.first.0 → long ≡ x.length
-    → print_line chain_word (first ∷ long ∷ []) ≡ chain_line x
-chain_is x e f = rw (e, f) refl
-
-pub chain_fits : (x : Chain) → x.first.0 ≤ most_engines → x.length ≤ most_engines + 1 → length (chain_line x) ≤ chain_line_room
-chain_fits x h l =
-    let short = line_most 1 chain_word (x.first.0 ∷ x.length ∷ []) in
-    omega (arith, short (omega arith, (omega arith, tt)))
-
--- the loads of a judged table, in block 0 one for each run, in a later block those but for the carried; and how long their line is
+-- the loads of a judged table, in block 0 one for each run, in a later block those but for the carried
 pub loads_told : (t : Table) → Ranged small t → Meets t → {runs kept : ℕ} → runs ≡ length t.runs → kept ≡ carried t
     → print_line loads_word (runs ∷ (runs - kept) ∷ []) ≡ loads_line t
 loads_told t g o {runs} {kept} e f =
@@ -92,10 +82,6 @@ loads_told t g o {runs} {kept} e f =
     let two : loads t 2 ≡ length t.runs + (length t.runs - carried t) = loads_are small t g o 2 ∙ omega arith in
     let later : loads t 2 - loads t 1 ≡ runs - kept = omega arith in
     rw (later, one, e) refl
-
-pub loads_fit : (first later : ℕ) → first ≤ most_runs → later ≤ most_runs
-    → length (print_line loads_word (first ∷ later ∷ [])) ≤ loads_line_room
-loads_fit first later h l = omega (arith, line_most 6 loads_word (first ∷ later ∷ []) (omega arith, (omega arith, tt)))
 
 -- a text laid over a buffer is laid there by another name too
 pub by_name : (l : List ℕ) {w v xs : List ℕ} → xs ≡ over w l → w ≡ v → xs ≡ over v l

@@ -7,9 +7,9 @@ ghost use Rattle.paper.specs.Outcome.{Puts};
 ghost use Rattle.chain_lines.specs.Parts.{chain_lines, rotation_lines};
 
 use carried_over::kept_over;
-use line_print::print_line;
 use paper::Row;
 use rotation::chain_of;
+use table_lines::{print_chain, print_loads};
 use table_tally::Accepted;
 
 // The chains, by first row: past the last row of one the next begins. Of each its first row and its length.
@@ -24,8 +24,7 @@ fn print_chains(out: &mut [u8], accepted: &Accepted) -> usize
     let mut first = 0;
     while first < engines {
         let chain = chain_of(edges, Row(first));
-        let numbers = [u64::from(chain.first.0), u64::from(chain.length)];
-        at += print_line(&mut out[at..], b"chain", &numbers);
+        at += print_chain(&mut out[at..], chain);
         first += chain.length;
     }
     at
@@ -38,8 +37,7 @@ pub fn print_rotation(out: &mut [u8], accepted: &Accepted) -> usize
     ensures upper_bound { result ≤ rotation_lines_room }
 {
     let at = print_chains(out, accepted);
-    let runs = u64::from(accepted.table().reading().runs);
-    let kept = u64::from(kept_over(accepted));
-    let loads = [runs, runs - kept];
-    at + print_line(&mut out[at..], b"loads", &loads)
+    let runs = accepted.table().reading().runs;
+    let kept = kept_over(accepted);
+    at + print_loads(&mut out[at..], runs, runs - kept)
 }

@@ -2,12 +2,15 @@
 // `as` stands where std has no `From` (32 bits to usize, usize to u64), or where it is proved that nothing is lost (d).
 #![tactic(auto)]
 
-ghost use Rattle.std.specs.Prelude.{◌≤◌, length};
-ghost use Rattle.paper.specs.Limits.{duty_lines_room, run_lines_room, table_lines_room};
+ghost use Rattle.std.specs.Prelude.{[], ◌∷◌, ◌+◌, ◌≤◌, length};
+ghost use Rattle.paper.specs.Limits.{most_engines, most_runs};
+ghost use Rattle.paper.specs.Limits.{duty_lines_room, run_lines_room, table_lines_room, chain_line_room, loads_line_room};
+ghost use Rattle.paper.specs.Text.{print_line, chain_line, loads_word};
 ghost use Rattle.paper.specs.Outcome.{Puts};
 ghost use Rattle.table_lines.specs.Parts.{duty_lines, run_lines, table_lines};
 
 use line_print::print_line;
+use paper::Chain;
 use record_read::TableBytes;
 
 // The duties, one line each: number, service, period. The runs below have a loop of their own (c): tried as one function over a closure
@@ -63,4 +66,24 @@ pub fn print_table(out: &mut [u8], table: &TableBytes) -> usize
     let duties = print_line(out, b"plan", &plan);
     let runs = duties + print_duties(&mut out[duties..], table);
     runs + print_runs(&mut out[runs..], table)
+}
+
+// A chain: first row, length.
+pub fn print_chain(out: &mut [u8], chain: Chain) -> usize
+    requires { (chain.first.0 ≤ most_engines) × (chain.length ≤ most_engines + 1) × (chain_line_room ≤ length out.old) }
+    ensures puts { Puts (chain_line chain) out.old out.new result }
+    ensures upper_bound { result ≤ chain_line_room }
+{
+    let numbers = [u64::from(chain.first.0), u64::from(chain.length)];
+    print_line(out, b"chain", &numbers)
+}
+
+// The loads: in block 0, in each later block.
+pub fn print_loads(out: &mut [u8], first: u32, later: u32) -> usize
+    requires { (first ≤ most_runs) × (later ≤ most_runs) × (loads_line_room ≤ length out.old) }
+    ensures puts { Puts (print_line loads_word (first ∷ later ∷ [])) out.old out.new result }
+    ensures upper_bound { result ≤ loads_line_room }
+{
+    let numbers = [u64::from(first), u64::from(later)];
+    print_line(out, b"loads", &numbers)
 }
