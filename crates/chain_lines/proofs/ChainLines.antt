@@ -11,15 +11,14 @@ use Rattle.laws.specs.Lists.{flat, over}
 use Rattle.laws.proofs.Lists.{flat_append, flat_step, flat_end}
 use Rattle.laws.proofs.Writing.{Wrote, written, grown, all_written, over_nothing}
 use Rattle.paper.specs.declared.Chain.{Chain}
-use Rattle.paper.specs.Limits.{small, most_engines, most_runs, chain_line_room, loads_line_room}
+use Rattle.paper.specs.Limits.{small, chain_line_room}
 use Rattle.paper.specs.Words.{Table}
 use Rattle.paper.specs.Statements.{Ranged, Meets}
 use Rattle.paper.specs.Outcome.{Puts}
 use Rattle.paper.specs.Rotation.{first_of, chains_below}
 use Rattle.paper.specs.Walk.{loads}
-use Rattle.paper.specs.Text.{print_line, chain_word, chain_line, loads_word, loads_line}
+use Rattle.paper.specs.Text.{print_line, chain_line, loads_word, loads_line}
 use Rattle.walk_laws.proofs.Page.{first_zero, InChain, onward, chains_onward, chains_none, carried, loads_are}
-use Rattle.line_print.proofs.Line.{line_most}
 use Rattle.chain_lines.specs.Parts.{lines_below}
 
 pub record Chained (c : ℕ → Bool) (m : ℕ) (l xs : List ℕ) (at k : ℕ) : Type 0 where
