@@ -32,11 +32,12 @@ loop-i-preserved c =
     let step = c.in-Some.ensures.steps in
     let a = loop.invariant.0 in
     let l = ap length step.1 in
-    let m : on_line (c.in-Some.n.now ∷ next.b.rest.now) c.in-Some.i (args.place - loop.left) args.place ≡ on_line args.units.now 0 0 args.place
+    let n = c.in-Some.n.now in
+    let m : on_line (n ∷ next.b.rest.now) c.in-Some.i (args.place - loop.left) args.place ≡ on_line args.units.now 0 0 args.place
     = rw (← step.1, step.0.0) loop.invariant.2 in (
       omega arith,
       omega (arith, step.0, l, loop.invariant.1),
-      rw step.0.1 (sym (not c.in-Some.n.now next.b.rest.now c.in-Some.i loop.left args.place a (search rules)) ∙ m),
+      rw step.0.1 (sym (not n next.b.rest.now c.in-Some.i loop.left args.place a (search rules)) ∙ m),
     )
 
 pub returns : goal.returns
