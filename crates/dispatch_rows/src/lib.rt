@@ -34,6 +34,7 @@ pub fn rows_at(accepted: &Accepted, block: u64) -> [Row; MOST_ENGINES]
     let engines = accepted.table().reading().engines;
     let mut rows = [Row(0); MOST_ENGINES];
     let mut turned = turned_at(edges, Row(0), block);
+    // (c) Tried over `(0..engines).zip(&mut rows)`: no proof, since nothing is known of rows that are written through an adapter of `&mut`.
     for i in 0..engines {
         turned = onward(edges, block, turned, Row(i));
         let at = i as usize;

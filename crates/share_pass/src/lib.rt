@@ -42,6 +42,7 @@ pub fn put_blocks(paces: &mut Paces, blocks: u32, cuts: &[u8], list: &mut [u32])
     ensures { list.new ≡ over (allotted paces.old.sharing blocks) list.old }
 {
     let duties = paces.duty_count();
+    // (a) `at` is counted: over `chunks_exact_mut(duties)` the wrong program of the edit `one_entry_off`, to be refused, can't be written.
     let mut at = 0;
     for cut in &cuts[..blocks as usize] {
         paces.share_by_cut(u32::from(*cut), &mut list[at..]);
