@@ -41,6 +41,7 @@ pub fn carried(edges: &Edges, engines: u32) -> u32
 {
     let mut count = 0;
     let mut first = 0;
+    // (d) No plainer over an iterator of chains: it would hold the edges, this `first` and the end, with a contract of how it goes on.
     while first < engines {
         let chain = chain_of(edges, Row(first));
         count += carried_in(edges, chain);

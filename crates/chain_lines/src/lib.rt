@@ -22,6 +22,7 @@ fn print_chains(out: &mut [u8], accepted: &Accepted) -> usize
     let engines = accepted.table().reading().engines;
     let mut at = 0;
     let mut first = 0;
+    // (d) No plainer over an iterator of chains: it would hold the edges, this `first` and the end, with a contract of how it goes on.
     while first < engines {
         let chain = chain_of(edges, Row(first));
         at += print_chain(&mut out[at..], chain);

@@ -11,7 +11,7 @@ ghost use Rattle.rotation.specs.Turning.{IsTurned};
 ghost use Rattle.dispatch_rows.specs.AtHand.{AtHand};
 
 use paper::limits::MOST_ENGINES;
-use paper::{Chain, Engine, Row};
+use paper::{Engine, Row};
 use rotation::{Turned, row_of, turned_at};
 use row_edges::Edges;
 use table_tally::Accepted;
@@ -27,20 +27,15 @@ fn onward(edges: &Edges, block: u64, turned: Turned, row: Row) -> Turned
     turned_at(edges, row, block)
 }
 
-// The rows of all engines in a block: one chain after the other, each found once. At first there is none at hand.
+// The rows of all engines in a block: one chain after the other, each found once.
 pub fn rows_at(accepted: &Accepted, block: u64) -> [Row; MOST_ENGINES]
     ensures { result ≡ rows_at (link accepted.now) accepted.now.engines block }
 {
     let edges = accepted.edges();
     let engines = accepted.table().reading().engines;
     let mut rows = [Row(0); MOST_ENGINES];
-    let mut turned = Turned {
-        chain: Chain {
-            first: Row(0),
-            length: 0,
-        },
-        places: 0,
-    };
+    let mut turned = turned_at(edges, Row(0), block);
+    // (c) Tried over `(0..engines).zip(&mut rows)`: no proof, since nothing is known of rows that are written through an adapter of `&mut`.
     for i in 0..engines {
         turned = onward(edges, block, turned, Row(i));
         let at = i as usize;

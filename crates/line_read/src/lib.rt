@@ -11,6 +11,7 @@ use paper::Duty;
 use paper::limits::{DEFAULT_ENGINES, MOST_DUTIES};
 
 // The first place of a byte, or the length where it is not there.
+// (d) Not an Option: the definitions' `first` is the length where there is none, and the tests below hold it against that as they do.
 pub fn find(b: &[u8], x: u8) -> usize
     ensures value { result ≡ first (λ k. eqb (get_or b.now k 0) x) (length b.now) }
     ensures upper_bound { result ≤ length b.now }

@@ -21,6 +21,7 @@ fn read_duties(b: &[u8], engines: u32) -> Result<Input, Refusal>
     let mut periods = [0; MOST_DUTIES];
     let mut i = 0;
     let mut at = 0;
+    // (d) No plainer over `split_inclusive`: whether a line is ended asks for its line feed again, and `i` is still wanted at the end.
     while at < b.len() {
         let rest = &b[at..];
         let end = find(rest, b'\n');

@@ -11,7 +11,7 @@ use mathlib.Core.List.{List, [], ◌∷◌}
 use native.Mathlib.Nat.{zero-add, add-zero, zero-mul, add_assoc, not-suc-le-zero, le_of_suc-le-suc, mul-le-mul_right}
 use native.Mathlib.Nat.{lt_of_mul-lt-mul_right}
 use native.Mathlib.Omega.{arith}
-use lib.ListN.{length, get_or, take, drop, drop_of_length-le}
+use lib.ListN.{length, get_or, take}
 use borrow.Author.Tests.{eq-eqb, ne_eqb, lt-ltb, le-ltb, le-leb, lt-leb}
 use Rattle.laws.specs.Choice.{pick, one_if}
 use Rattle.laws.specs.Lists.{sum_of}
@@ -167,6 +167,7 @@ module _ (n : ℕ) (ns : List ℕ) (i s p : ℕ) (a : s ≤ p) where
   pub first_not : s + n ≤ p → on_line (n ∷ ns) i s p ≡ on_line ns (i + 1) (s + n) p
   first_not h = line_step ∙ rw (le-leb s p a, le-ltb p (s + n) h)
 
-pub none_has : (ns : List ℕ) (i s p : ℕ) → length ns ≤ i → on_line (drop i ns) i s p ≡ None
+pub none_has : (ns : List ℕ) (i s p : ℕ) → length ns ≤ 0 → on_line ns i s p ≡ None
 unfolding on_line
-none_has ns i s p h = rw (drop_of_length-le ns h)
+none_has [] i s p h = refl
+none_has (n ∷ ns) i s p h = absurd (not-suc-le-zero h)

@@ -19,6 +19,7 @@ fn chain_first(edges: &Edges, row: Row) -> Row
     requires { row.0 ≤ most_engines }
     ensures { (result.0 ≡ first_of (link_of edges.now) row.0) × (result.0 ≤ row.0) }
 {
+    // (c) Tried as `(0..row.0).rev().find(..)`: no proof, since the library has no lemma of what a range yields from its end down.
     for r in (0..row.0).rev() {
         if !linked(edges, Row(r)) {
             return Row(r + 1);
@@ -32,12 +33,8 @@ fn chain_last(edges: &Edges, row: Row) -> Row
     requires { row.0 ≤ most_engines }
     ensures { IsLast (link_of edges.now) row.0 result.0 }
 {
-    for r in row.0..MOST_ROWS {
-        if !linked(edges, Row(r)) {
-            return Row(r);
-        }
-    }
-    Row(MOST_ROWS)
+    let last = (row.0..MOST_ROWS).find(|r| !linked(edges, Row(*r)));
+    Row(last.unwrap_or(MOST_ROWS))
 }
 
 // The chain of a row.

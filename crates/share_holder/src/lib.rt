@@ -14,9 +14,9 @@ pub fn held_at(units: &[u32], place: u32) -> Held
     ensures { result ≡ on_line units.now 0 0 place }
 {
     let mut left = place;
-    for (i, n) in units.iter().enumerate() {
+    for (i, n) in (0..).zip(units) {
         if left < *n {
-            return Some(i as u32);
+            return Some(i);
         }
         left -= *n;
     }

@@ -45,6 +45,7 @@ pub fn put_blocks(paces: &mut Paces, blocks: u32, cuts: &[u8], list: &mut [u32])
     ensures next { paces.new ≡ pace paces.old.sharing blocks }
 {
     let duties = paces.duty_count();
+    // (a) `at` is counted: over `chunks_exact_mut(duties)` the wrong program of the edit `one_entry_off`, to be refused, can't be written.
     let mut at = 0;
     for cut in &cuts[..blocks as usize] {
         paces.share_by_cut(u32::from(*cut), &mut list[at..]);

@@ -28,7 +28,7 @@ pub record InChain (c : ℕ → Bool) (e : ℕ) (x : Chain) : Type 0 where
 
 module _ (c : ℕ → Bool) where
   -- a row n places on along links has the same first row
-  first_along : (r n : ℕ) → ((k : ℕ) → r ≤ k → k < r + n → c k ≡ true) → first_of c (r + n) ≡ first_of c r
+  pub first_along : (r n : ℕ) → ((k : ℕ) → r ≤ k → k < r + n → c k ≡ true) → first_of c (r + n) ≡ first_of c r
   first_along r zero h = ap (first_of c) (omega arith)
   first_along r (suc n) h =
       let z : r + suc n ≡ suc (r + n) = omega arith in

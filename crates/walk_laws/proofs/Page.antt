@@ -35,6 +35,8 @@ pub use Rattle.paper.proofs.Rotation.{first_zero, first_back, first_on, begins}
 pub use Rattle.paper.proofs.Rotation.{next_linked, next_last}
 -- the walk over the rows: in block 0 the row of the engine's number, and from each block to the next the next engine's row
 pub use Rattle.paper.proofs.Rotation.{row_start, row_after_lem}
+-- along links, however many, the first row is the same
+pub use Rattle.walk_laws.proofs.Chains.{first_along}
 -- `InChain c e x`: row e is in the chain x, which is linked all along and not at its end. A row's first and last row make one; each of its
 -- rows is in it; it begins with the first row of each
 pub use Rattle.walk_laws.proofs.Chains.{InChain, in_chain, chain_other, chain_first}

@@ -6,7 +6,7 @@ use native.Mathlib.Omega.{arith}
 use Rattle.paper.specs.Limits.{most_engines}
 use Rattle.row_edges.specs.Links.{link_of}
 use Rattle.rotation.proofs.Turns.{row_turned}
-use Rattle.dispatch_rows.proofs.AtHand.{none_at_hand, next_at_hand}
+use Rattle.dispatch_rows.proofs.AtHand.{own_at_hand, next_at_hand}
 use Rattle.dispatch_rows.proofs.Filling.{rows_none, rows_more}
 use Rattle.dispatch_rows.proofs.rows_at.Goals as goal
 use Rattle.dispatch_rows.proofs.rows_at.Goals.{After-reading-engines}
@@ -16,7 +16,7 @@ engines-are : (c : After-reading-engines) → c.reading-engines.result.engines �
 engines-are c = ap (λ r. r.engines) c.reading-engines.ensures.told ∙ ap (λ (t : Table). t.engines) c.table.ensures.same
 
 pub loop-i-init : goal.loop-i-init
-loop-i-init c = (none_at_hand _ _, rows_none _ _)
+loop-i-init c = (own_at_hand c.turned_at-turned.ensures, rows_none _ _)
 
 pub loop-i-preserved : goal.loop-i-preserved
 loop-i-preserved c =

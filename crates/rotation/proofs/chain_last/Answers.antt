@@ -1,21 +1,39 @@
 -- `chain_last`: the first row is the same all along the links, so the row where they end is of the same chain.
+use Prim.Native.Nat.{ℕ, ◌+◌, ◌-◌, ◌≤◌, ◌<◌}
 use mathlib.Core.Path.{◌≡◌, sym, ap, ◌∙◌}
+use mathlib.Core.Bool.{Bool, true, false}
 use native.Mathlib.Omega.{arith}
 use borrow.Author.Rules.{rules}
+use borrow.Author.Tests.{tests}
+use Rattle.std.specs.Prelude.{Option, Some, None}
+use Rattle.std.specs.Option.{unwrap_or}
+use Rattle.std.proofs.Common.{MatchOption}
+use Rattle.std.proofs.lemmas.Iterator.{first_from_Range}
 use Rattle.paper.specs.Limits.{most_engines}
 use Rattle.paper.specs.Rotation.{first_of}
-use Rattle.walk_laws.proofs.Page.{first_on}
+use Rattle.walk_laws.proofs.Page.{first_along}
+use Rattle.row_edges.specs.Links.{link_of}
 use Rattle.row_edges.proofs.Linking.{link_past}
+use Rattle.rotation.specs.Turning.{IsLast}
 use Rattle.rotation.proofs.chain_last.Goals as goal
 
-pub loop-r-preserved : goal.loop-r-preserved
-loop-r-preserved c =
-    let loop = c.loop-r in
-    (search rules, search rules, first_on _ loop.r (sym c.linked.ensures ∙ c.if-not-linked.false) ∙ loop.invariant.2)
+-- linked from row r on as far as row k: of one chain
+chained : (c : ℕ → Bool) (r k : ℕ) → r ≤ k → ((j : ℕ) → r ≤ j → j < k → c j ≡ true) → first_of c k ≡ first_of c r
+chained c r k a h =
+    let e : r + (k - r) ≡ k = omega arith in
+    sym (ap (first_of c) e) ∙ first_along c r (k - r) (λ j b d. h j b (omega arith))
+
+-- the row found is the last of the chain, and where none is found the last that there may be
+last : (c : ℕ → Bool) (r : ℕ) (o : Option ℕ) → r ≤ most_engines → c most_engines ≡ false
+    → MatchOption o ((k : ℕ) → r ≤ k → k < most_engines → c k ≡ true)
+    (λ i. (r ≤ i) × (i < most_engines) × (c i ≡ false) × ((k : ℕ) → r ≤ k → k < i → c k ≡ true))
+    → IsLast c r (unwrap_or o most_engines)
+last c r None l e h = record { after = l; most = omega arith; chained = chained c r most_engines l h; ends = e }
+last c r (Some i) l e h = record { after = h.0; most = omega (arith, h.1); chained = chained c r i h.0 h.3; ends = h.2 }
 
 pub returns : goal.returns
 returns c =
-    let loop = c.loop-r in
-    let z : loop.r ≡ most_engines = omega arith in
-    let same = ap (first_of _) (sym z) ∙ loop.invariant.2 in
-    record { after = search rules; most = search rules; chained = same; ends = link_past _ (search rules) }
+    let link = link_of c.args.edges.now in
+    let found = first_from_Range _ _ _ _ (λ k. link k ≡ false) (λ k. link k ≡ true) c.find-last.ensures.ran
+    (λ x q k. search (rules, tests)) (λ x q k. (search rules, search (rules, tests))) in
+    rw c.unwrap_or.ensures (last link c.args.row.0 c.find-last.result (search rules) (link_past _ (omega arith)) found)

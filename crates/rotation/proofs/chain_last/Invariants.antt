@@ -1,9 +1,0 @@
-use Prim.Native.Nat.{◌≤◌}
-use mathlib.Core.Path.{◌≡◌}
-use Rattle.paper.specs.Limits.{most_engines}
-use Rattle.paper.specs.Rotation.{first_of}
-use Rattle.row_edges.specs.Links.{link_of}
-use Rattle.rotation.proofs.chain_last.Given as goal
-
-abbrev pub invariant-loop-r : goal.invariant-loop-r
-invariant-loop-r l = (l.initial.r ≤ l.r) × (l.r ≤ most_engines) × (first_of (link_of l.edges) l.r ≡ first_of (link_of l.edges) l.initial.r)
