@@ -22,7 +22,7 @@ engines-are : (c : After-reading-engines) → c.reading-engines.result.engines �
 engines-are c = ap (λ r. r.engines) c.reading-engines.ensures.told ∙ ap (λ (t : Table). t.engines) c.table.ensures.same
 
 ends : (c : After-reading-engines)
-    → first_of (link_of c.edges-edges.result.now) c.reading-engines.result.engines ≡ c.reading-engines.result.engines
+    → first_of (link_of c.edges-edges.result.now.rows) c.reading-engines.result.engines ≡ c.reading-engines.result.engines
 ends c = rw (engines-are c) c.edges-edges.ensures.ends
 
 pub loop-first-init : goal.loop-first-init
@@ -57,7 +57,7 @@ loop-first-preserved c =
     let chain = c.chain_of-chain in
     let put = c.print_line-at in
     let loop = c.loop-first in
-    let link = link_of c.edges-edges.result.now in
+    let link = link_of c.edges-edges.result.now.rows in
     let engines = start.reading-engines.result.engines in
     let line = chain_is chain.result c.from.ensures c.from-in-loop-first.ensures in
     let on = onward _ engines (ends start) loop.invariant.begins chain.ensures.0 (search rules) in

@@ -6,4 +6,5 @@ use Rattle.row_edges.specs.Links.{link_of}
 use Rattle.rotation.proofs.chain_last.Given as goal
 
 abbrev pub invariant-loop-r : goal.invariant-loop-r
-invariant-loop-r l = (l.initial.r ≤ l.r) × (l.r ≤ most_engines) × (first_of (link_of l.edges) l.r ≡ first_of (link_of l.edges) l.initial.r)
+invariant-loop-r l =
+    (l.initial.r ≤ l.r) × (l.r ≤ most_engines) × (first_of (link_of l.edges.rows) l.r ≡ first_of (link_of l.edges.rows) l.initial.r)
