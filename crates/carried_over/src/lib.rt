@@ -10,23 +10,23 @@ ghost use Rattle.carried_over.specs.Carried.{carried_of, closes_of, carried_in};
 
 use paper::{Chain, Row};
 use rotation::chain_of;
-use row_edges::{Edges, first_edge, last_edge, same_duty};
+use row_edges::{Edges, same_duty};
 use table_tally::Accepted;
 
 // Whether the duty at the end of a chain's last row goes on at the start of its first, to which that row's engine moves.
 fn closes(edges: &Edges, chain: Chain) -> bool
     requires { (1 ≤ chain.length) × (chain.first.0 + chain.length ≤ most_engines + 1) }
-    ensures { result ≡ closes_of edges.now chain }
+    ensures { result ≡ closes_of edges.now.rows chain }
 {
     let last = chain.first.0 + chain.length - 1;
-    same_duty(last_edge(edges, Row(last)), first_edge(edges, chain.first))
+    same_duty(edges.last(Row(last)), edges.first(chain.first))
 }
 
 // At how many rows of a chain a duty is carried over a boundary: at each that another is chained to, and at the last where the chain
 // closes.
 fn carried_in(edges: &Edges, chain: Chain) -> u32
     requires { (1 ≤ chain.length) × (chain.first.0 + chain.length ≤ most_engines + 1) }
-    ensures { (result ≡ carried_in edges.now chain) × (result ≤ chain.length) }
+    ensures { (result ≡ carried_in edges.now.rows chain) × (result ≤ chain.length) }
 {
     if closes(edges, chain) {
         return chain.length;
@@ -36,8 +36,8 @@ fn carried_in(edges: &Edges, chain: Chain) -> u32
 
 // At how many rows a duty is carried over a boundary: those are no loads in any block but the first. The last row's chain ends with it.
 pub fn carried(edges: &Edges, engines: u32) -> u32
-    requires { (engines ≤ most_engines) × (first_of (link_of edges.now) engines ≡ engines) }
-    ensures { (result ≡ carried_of edges.now engines) × (result ≤ engines) }
+    requires { (engines ≤ most_engines) × (first_of (link_of edges.now.rows) engines ≡ engines) }
+    ensures { (result ≡ carried_of edges.now.rows engines) × (result ≤ engines) }
 {
     let mut count = 0;
     let mut first = 0;

@@ -18,8 +18,8 @@ use table_tally::Accepted;
 
 // The chain of a row in a block: the one at hand, if it reaches so far, or else the next.
 fn onward(edges: &Edges, block: u64, turned: Turned, row: Row) -> Turned
-    requires { (row.0 ≤ most_engines) × AtHand (link_of edges.now) block row.0 turned }
-    ensures { IsTurned (link_of edges.now) block row.0 result }
+    requires { (row.0 ≤ most_engines) × AtHand (link_of edges.now.rows) block row.0 turned }
+    ensures { IsTurned (link_of edges.now.rows) block row.0 result }
 {
     if row.0 < turned.chain.first.0 + turned.chain.length {
         return turned;

@@ -150,8 +150,3 @@ share_reading_room = 3
 -- "a block number and 32 row numbers"
 abbrev pub state_room : ℕ
 state_room = most_engines + 1
-
--- ---- on the way: the edges of all rows and of one row past them, two of each
-
-abbrev pub edge_count : ℕ
-edge_count = 2 * most_engines + 2

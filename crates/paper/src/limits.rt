@@ -47,8 +47,8 @@ pub const MOST_TABLE: usize = HEAD_LENGTH
     + RUN_LENGTH * MOST_RUNS
     + END_LENGTH;
 
-// The edges of all rows and of one row past them, two of each.
-pub const EDGES: usize = 2 * MOST_ENGINES + 2;
+// The rows that have edges: all that there may be, and one past them.
+pub const EDGE_ROWS: usize = MOST_ENGINES + 1;
 
 // The pointers of all runs, and the fronts of all duties' lists.
 pub const POINTERS: usize = MOST_RUNS + MOST_DUTIES;

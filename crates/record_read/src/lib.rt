@@ -23,7 +23,7 @@ use paper::{Duty, Reading, Row, Run};
 use std::marker::Model;
 
 // The kinds of records.
-#[derive(Clone, Copy)]
+#[derive(Clone, Copy, Debug, PartialEq, Eq)]
 pub enum Kind {
     Head,
     Duty,
@@ -70,7 +70,7 @@ pub fn read_field<const N: usize>(b: &[u8], at: usize) -> u32
 }
 
 // What a table's head holds: the block length, and how many engines and duties there are.
-#[derive(Clone, Copy)]
+#[derive(Clone, Copy, Debug, PartialEq, Eq)]
 pub struct Head {
     pub block_length: u32,
     pub engines: u32,

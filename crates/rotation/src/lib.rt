@@ -12,16 +12,16 @@ ghost use Rattle.rotation.specs.Turning.{IsLast, IsTurned, round};
 
 use paper::limits::MOST_ROWS;
 use paper::{Chain, Engine, Row};
-use row_edges::{Edges, linked};
+use row_edges::Edges;
 
 // The first row of a row's chain: down along the links.
 fn chain_first(edges: &Edges, row: Row) -> Row
     requires { row.0 ≤ most_engines }
-    ensures { (result.0 ≡ first_of (link_of edges.now) row.0) × (result.0 ≤ row.0) }
+    ensures { (result.0 ≡ first_of (link_of edges.now.rows) row.0) × (result.0 ≤ row.0) }
 {
     // (c) Tried as `(0..row.0).rev().find(..)`: no proof, since the library has no lemma of what a range yields from its end down.
     for r in (0..row.0).rev() {
-        if !linked(edges, Row(r)) {
+        if !edges.linked(Row(r)) {
             return Row(r + 1);
         }
     }
@@ -31,16 +31,16 @@ fn chain_first(edges: &Edges, row: Row) -> Row
 // The last row of a row's chain: up along the links. Nothing is chained to the row past the last that there may be.
 fn chain_last(edges: &Edges, row: Row) -> Row
     requires { row.0 ≤ most_engines }
-    ensures { IsLast (link_of edges.now) row.0 result.0 }
+    ensures { IsLast (link_of edges.now.rows) row.0 result.0 }
 {
-    let last = (row.0..MOST_ROWS).find(|r| !linked(edges, Row(*r)));
+    let last = (row.0..MOST_ROWS).find(|r| !edges.linked(Row(*r)));
     Row(last.unwrap_or(MOST_ROWS))
 }
 
 // The chain of a row.
 pub fn chain_of(edges: &Edges, row: Row) -> Chain
     requires { row.0 ≤ most_engines }
-    ensures { InChain (link_of edges.now) row.0 result × (result.first.0 + result.length ≤ most_engines + 1) }
+    ensures { InChain (link_of edges.now.rows) row.0 result × (result.first.0 + result.length ≤ most_engines + 1) }
 {
     let first = chain_first(edges, row);
     let last = chain_last(edges, row);
@@ -58,7 +58,7 @@ pub struct Turned {
 // The chain of a row, in a block.
 pub fn turned_at(edges: &Edges, row: Row, block: u64) -> Turned
     requires { row.0 ≤ most_engines }
-    ensures { IsTurned (link_of edges.now) block row.0 result }
+    ensures { IsTurned (link_of edges.now.rows) block row.0 result }
 {
     let chain = chain_of(edges, row);
     let places = (block % u64::from(chain.length)) as u32;
@@ -84,7 +84,7 @@ pub fn row_of(turned: Turned, engine: Engine) -> Row
 // The row that an engine runs in a block.
 pub fn row_in(edges: &Edges, engine: Engine, block: u64) -> Row
     requires { engine.0 ≤ most_engines }
-    ensures { result ≡ row_at (link_of edges.now) block engine }
+    ensures { result ≡ row_at (link_of edges.now.rows) block engine }
 {
     row_of(turned_at(edges, Row(engine.0), block), engine)
 }

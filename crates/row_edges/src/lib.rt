@@ -9,24 +9,24 @@ ghost use Rattle.paper.specs.Limits.{most_engines};
 ghost use Rattle.row_edges.specs.Links.{first_edge, last_edge, link_of};
 
 use paper::Row;
-use paper::limits::MOST_ENGINES;
-
-// All rows that have edges: those that there may be, and one past them, which is idle.
-pub const EDGE_ROWS: usize = MOST_ENGINES + 1;
+use paper::limits::EDGE_ROWS;
 
 // What holds an edge: nothing, or a duty by its number, which is one byte as in its record. So all edges are small enough to be handed
 // back.
 pub type Edge = Option<u8>;
 
 // What holds the first and the last unit of a row.
-#[derive(Clone, Copy)]
+#[derive(Clone, Copy, Debug, PartialEq, Eq)]
 pub struct RowEdges {
     pub first: Edge,
     pub last: Edge,
 }
 
-// The edges of all rows.
-pub type Edges = [RowEdges; EDGE_ROWS];
+// The edges of all rows that there may be, and of one past them, which is idle.
+#[derive(Clone, Copy, Debug, PartialEq, Eq)]
+pub struct Edges {
+    pub rows: [RowEdges; EDGE_ROWS],
+}
 
 // Whether one duty holds both, of two edges.
 #[tactic(auto, unfolding(paper::specs::Duties::same))]
@@ -36,27 +36,29 @@ pub fn same_duty(g: Edge, h: Edge) -> bool
     g.is_some() && g == h
 }
 
-// What holds the first unit of a row.
-pub fn first_edge(edges: &Edges, row: Row) -> Edge
-    requires { row.0 ≤ most_engines }
-    ensures { result ≡ first_edge edges.now row.0 }
-{
-    edges[row.0 as usize].first
-}
+impl Edges {
+    // What holds the first unit of a row.
+    pub fn first(&self, row: Row) -> Edge
+        requires { row.0 ≤ most_engines }
+        ensures { result ≡ first_edge self.now.rows row.0 }
+    {
+        self.rows[row.0 as usize].first
+    }
 
-// What holds the last unit of a row.
-pub fn last_edge(edges: &Edges, row: Row) -> Edge
-    requires { row.0 ≤ most_engines }
-    ensures { result ≡ last_edge edges.now row.0 }
-{
-    edges[row.0 as usize].last
-}
+    // What holds the last unit of a row.
+    pub fn last(&self, row: Row) -> Edge
+        requires { row.0 ≤ most_engines }
+        ensures { result ≡ last_edge self.now.rows row.0 }
+    {
+        self.rows[row.0 as usize].last
+    }
 
-// Whether the row after this one is chained to it.
-#[tactic(auto, unfolding(crate::specs::Links::link_of))]
-pub fn linked(edges: &Edges, row: Row) -> bool
-    requires { row.0 < most_engines }
-    ensures { result ≡ link_of edges.now row.0 }
-{
-    same_duty(last_edge(edges, row), first_edge(edges, Row(row.0 + 1)))
+    // Whether the row after this one is chained to it.
+    #[tactic(auto, unfolding(crate::specs::Links::link_of))]
+    pub fn linked(&self, row: Row) -> bool
+        requires { row.0 < most_engines }
+        ensures { result ≡ link_of self.now.rows row.0 }
+    {
+        same_duty(self.last(row), self.first(Row(row.0 + 1)))
+    }
 }

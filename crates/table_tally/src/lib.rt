@@ -14,13 +14,13 @@ ghost use Rattle.table_tally.specs.Tally.{units_in, edges_of};
 ghost use Rattle.table_tally.specs.Ready.{Ready};
 
 use paper::Run;
-use paper::limits::MOST_DUTIES;
+use paper::limits::{EDGE_ROWS, MOST_DUTIES};
 use record_read::{TableBytes, run_covers};
-use row_edges::{EDGE_ROWS, Edge, Edges, RowEdges};
+use row_edges::{Edge, Edges, RowEdges};
 use std::marker::Model;
 
 // What one pass gathers: the units of each duty, and the edges of each row.
-#[derive(Clone, Copy)]
+#[derive(Clone, Copy, Debug, PartialEq, Eq)]
 pub struct Gathered {
     pub units: [u32; MOST_DUTIES],
     pub edges: Edges,
@@ -42,23 +42,25 @@ fn edge(x: Run, unit: u32, old: Edge) -> Edge
 // Tallies a table. The first run that has a unit holds it, so the runs are passed from the last to the first.
 pub fn tally(table: &TableBytes) -> Gathered
     ensures units { result.units ≡ units_in table.now }
-    ensures edges { result.edges ≡ edges_of table.now }
+    ensures edges { result.edges.rows ≡ edges_of table.now }
 {
     let reading = table.reading();
     let last = reading.block_length - 1;
     let mut gathered = Gathered {
         units: [0; MOST_DUTIES],
-        edges: [RowEdges {
-            first: None,
-            last: None,
-        }; EDGE_ROWS],
+        edges: Edges {
+            rows: [RowEdges {
+                first: None,
+                last: None,
+            }; EDGE_ROWS],
+        },
     };
     for k in (0..table.runs()).rev() {
         let x = table.run(k);
         gathered.units[x.duty as usize] += x.length;
         let row = x.row.0 as usize;
-        let edges = gathered.edges[row];
-        gathered.edges[row] = RowEdges {
+        let edges = gathered.edges.rows[row];
+        gathered.edges.rows[row] = RowEdges {
             first: edge(x, 0, edges.first),
             last: edge(x, last, edges.last),
         };
@@ -82,13 +84,13 @@ impl<'a> Model for Accepted<'a> {
 
     ghost view = { λ a. a.table };
 
-    ghost invariant = { λ a. Ready a.table a.edges };
+    ghost invariant = { λ a. Ready a.table a.edges.rows };
 }
 
 impl<'a> Accepted<'a> {
     // A table that meets the rules, and the edges that its tally gathered.
     pub fn new(table: TableBytes<'a>, edges: Edges) -> Accepted<'a>
-        requires { Ready table edges }
+        requires { Ready table edges.rows }
         ensures { result ≡ table.entry }
     {
         Accepted { table, edges }
@@ -105,9 +107,9 @@ impl<'a> Accepted<'a> {
 
     // The edges of its rows. They tell its links, and the chain of its last row ends with it.
     pub fn edges(&self) -> &Edges
-        ensures told { result.now ≡ edges_of self.now }
-        ensures links { link_of result.now ≡ link self.now }
-        ensures ends { first_of (link_of result.now) self.now.engines ≡ self.now.engines }
+        ensures told { result.now.rows ≡ edges_of self.now }
+        ensures links { link_of result.now.rows ≡ link self.now }
+        ensures ends { first_of (link_of result.now.rows) self.now.engines ≡ self.now.engines }
     {
         &self.edges
     }

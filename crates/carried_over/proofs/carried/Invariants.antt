@@ -8,7 +8,8 @@ use Rattle.carried_over.proofs.carried.Given as goal
 
 abbrev pub invariant-loop-first : goal.invariant-loop-first
 invariant-loop-first l =
-    (l.first ≤ l.engines) × (first_of (link_of l.edges) l.first ≡ l.first) × (l.count ≡ carried_of l.edges l.first) × (l.count ≤ l.first)
+    (l.first ≤ l.engines) × (first_of (link_of l.edges.rows) l.first ≡ l.first)
+    × (l.count ≡ carried_of l.edges.rows l.first) × (l.count ≤ l.first)
 
 abbrev pub decreases-loop-first : goal.decreases-loop-first
 decreases-loop-first l = l.engines - l.first

@@ -18,7 +18,7 @@ engines-are : (c : After-reading-engines) → c.reading-engines.result.engines �
 engines-are c = ap (λ r. r.engines) c.reading-engines.ensures.told ∙ ap (λ (t : Table). t.engines) c.table.ensures.same
 
 ends : (c : After-reading-engines)
-    → first_of (link_of c.edges-edges.result.now) c.reading-engines.result.engines ≡ c.reading-engines.result.engines
+    → first_of (link_of c.edges-edges.result.now.rows) c.reading-engines.result.engines ≡ c.reading-engines.result.engines
 ends c = rw (engines-are c) c.edges-edges.ensures.ends
 
 -- the engines are few, and with a chain of theirs one is not past the last
@@ -45,7 +45,7 @@ loop-first-preserved c =
     let start = (goal.at.loop-first-preserved c).After-reading-engines in
     let chain = c.chain_of-chain.ensures in
     let put = c.print_chain-at in
-    let link = link_of c.edges-edges.result.now in
+    let link = link_of c.edges-edges.result.now.rows in
     let engines = start.reading-engines.result.engines in
     chained_more link engines (ends start) c.loop-first.invariant (search rules) chain.0 put.new.out put.result put.ensures.puts.0
     put.ensures.puts.1 put.ensures.upper_bound (search rules)

@@ -24,7 +24,7 @@ loop-i-preserved c =
     let t = c.onward-turned.ensures in
     let engines = engines-are (goal.at.loop-i-preserved c).After-reading-engines in
     let few : loop.i < most_engines = omega (arith, c.table.ensures.ranged.engines_most, engines) in
-    let filled = rows_more (link_of c.edges-edges.result.now) c.args.block loop.i few (c.row_of.ensures ∙ row_turned t) in
+    let filled = rows_more (link_of c.edges-edges.result.now.rows) c.args.block loop.i few (c.row_of.ensures ∙ row_turned t) in
     (next_at_hand t, rw loop.invariant.1 filled)
 
 pub returns : goal.returns

@@ -6,4 +6,4 @@ use Rattle.dispatch_rows.proofs.rows_at.Given as goal
 
 abbrev pub invariant-loop-i : goal.invariant-loop-i
 invariant-loop-i l =
-    AtHand (link_of l.edges) l.block l.i l.turned × (l.rows ≡ rows_at (link_of l.edges) l.i l.block)
+    AtHand (link_of l.edges.rows) l.block l.i l.turned × (l.rows ≡ rows_at (link_of l.edges.rows) l.i l.block)

@@ -7,4 +7,4 @@ use Rattle.rotation.proofs.chain_first.Given as goal
 
 abbrev pub invariant-loop-r : goal.invariant-loop-r
 invariant-loop-r l =
-    (l.r ≤ l.initial.r) × (l.initial.r ≤ most_engines) × (first_of (link_of l.edges) l.r ≡ first_of (link_of l.edges) l.initial.r)
+    (l.r ≤ l.initial.r) × (l.initial.r ≤ most_engines) × (first_of (link_of l.edges.rows) l.r ≡ first_of (link_of l.edges.rows) l.initial.r)

@@ -33,7 +33,7 @@ last c r (Some i) l e h = record { after = h.0; most = omega (arith, h.1); chain
 
 pub returns : goal.returns
 returns c =
-    let link = link_of c.args.edges.now in
+    let link = link_of c.args.edges.now.rows in
     let found = first_from_Range _ _ _ _ (λ k. link k ≡ false) (λ k. link k ≡ true) c.find-last.ensures.ran
     (λ x q k. search (rules, tests)) (λ x q k. (search rules, search (rules, tests))) in
     rw c.unwrap_or.ensures (last link c.args.row.0 c.find-last.result (search rules) (link_past _ (omega arith)) found)
