@@ -15,5 +15,5 @@ list_is e f = rw (e, f)
 
 pub returns : goal.returns
 returns c =
-    c.put_blocks.ensures
+    c.put_blocks.ensures.written
     ∙ ap (λ (l : List ℕ). over l c.args.list.now) (list_is c.begin-paces.ensures.paced c.blocks-2.ensures.value)
