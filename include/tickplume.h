@@ -18,7 +18,7 @@
  * - A call writes over the front of what was lent to it. Bytes and entries past those written stay.
  * - Threads: no call keeps anything for the next one, so any number may run at once, on buffers that no other call is writing.
  * - Heap: none is used. From outside the library wants memcpy and memset at the most.
- * - Stack: below 7 KiB as measured on Arm, below 8 KiB through part 2; the library's tests fail at 16 KiB.
+ * - Stack: below 8 KiB as measured on x86-64, also through part 2; the library's tests fail at 16 KiB.
  * - A call that takes a table and may refuse judges it each time, which is most of its time; it grows with the duties and the runs. Only
  *   where one duty has many runs on many rows it may take longer, with 128 runs seven times as long.
  */
