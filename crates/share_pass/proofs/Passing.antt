@@ -2,19 +2,20 @@
 -- if it were laid over the list as it was lent: what the last block gave is all that is left of them.
 -- Assumes nothing.
 use Prim.Native.Nat.{ℕ, ◌+◌, ◌≤◌, ◌<◌}
-use mathlib.Core.Path.{◌≡◌, sym, ◌∙◌}
-use mathlib.Core.Bool.{false}
+use mathlib.Core.Path.{◌≡◌, refl, sym, ◌∙◌}
+use mathlib.Core.Bool.{true, false}
 use mathlib.Core.List.{List}
 use native.Mathlib.Omega.{arith}
 use lib.ListN.{length, set}
 use Rattle.laws.specs.Lists.{over}
 use Rattle.laws.proofs.Cases.{lt_or_le}
 use Rattle.laws.proofs.Turned.{over_again}
+use Rattle.paper.specs.declared.Refusal.TheVariants.{ShareBlock}
 use Rattle.paper.specs.Sa2.{duty_count, allotments}
 use Rattle.share_laws.proofs.OnLine.{allotments-length}
 use Rattle.share_laws.specs.Cut.{cut_at}
 use Rattle.share_block.specs.Paced.{Pace, pace, short_at}
-use Rattle.share_pass.specs.Passing.{CutsKept}
+use Rattle.share_pass.specs.Passing.{CutsKept, Stopped}
 use Rattle.share_pass.proofs.Keeping.{kept_more}
 
 -- the blocks from the next of p to before b are passed
@@ -45,4 +46,20 @@ module _ {p : Pace} {to b : ℕ} {q : Pace} {units cuts units' cuts' : List ℕ}
         alike = λ l n. rw gives (over_again l (allotments s b) units' (n ∙ sym (allotments-length s b)) ∙ g.alike l n);
         last = λ k x y. let e : k ≡ b = omega arith in rw e (gives ∙ g.alike (allotments s b) (allotments-length s b));
         kept = kept_more cut g.kept g.least l (rw g.paced at cut_is);
+      }
+
+  -- or the next one does come short, and is the first
+  pub passing_stopped :
+      {q' : Pace} → short_at q.sharing q.block ≡ true → q' ≡ pace q.sharing (q.block + 1) → b < to
+      → Stopped p to cuts (ShareBlock b) q' cuts'
+  passing_stopped short next h =
+      record {
+        block = b;
+        least = g.least;
+        told = refl;
+        most = h;
+        clear = g.clear;
+        stopped = rw g.paced at short;
+        paced = rw g.paced at next;
+        kept = g.kept;
       }
