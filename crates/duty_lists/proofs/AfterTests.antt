@@ -4,13 +4,14 @@
 use Prim.Native.Nat.{ℕ, ◌≤◌}
 use mathlib.Core.Path.{◌≡◌}
 use mathlib.Core.List.{List}
+use native.Mathlib.Omega.{arith}
 use lib.ListN.{length}
 use Rattle.laws.specs.Divisor.{gcd_of}
 use Rattle.paper.specs.declared.Duty.{Duty}
 use Rattle.paper.specs.Limits.{most_ticks}
 use Rattle.paper.specs.Words.{block_length_of}
 use Rattle.paper.specs.Outcome.{answer}
-use Rattle.paper.specs.Wanted.{Wanted, duty_set, taken}
+use Rattle.paper.specs.Wanted.{Wanted, duties_of, duty_set, taken}
 use Rattle.paper.specs.Statements.{CommonDivisor}
 use Rattle.paper.proofs.Passed.{From}
 use Rattle.table_laws.proofs.Accepted.{block_divides}
@@ -57,3 +58,9 @@ module _ (x : Wanted) where
         ticks_most = within.1;
         ranged = λ i l. c.ranges i (rw (length_duties x.services x.periods) l);
       }
+
+-- two lists whose slices can be worked out, in blocks of any length, can be put together as duties
+pub duties_by : {t : ℕ} {ss ps : List ℕ} → Sliceable t ss ps → (length ss ≡ length ps) × Listed (duties_of ss ps)
+duties_by {t} {ss} {ps} s =
+    let many = length_duties ss ps in
+    (s.paired.same, record { few = omega (arith, s.paired.few, many); ranged = λ i l. s.ranged i (omega (arith, l, many)) })

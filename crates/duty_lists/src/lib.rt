@@ -16,6 +16,18 @@ use search::lowest;
 use slices::{duty_in_range, gcd_of_all, is_within, range_fault};
 use std::marker::Model;
 
+// Duty i of the two lists, tested or not.
+#[tactic(auto, using(plan_laws::proofs::Planned::duty_is))]
+pub fn duty_at(services: &[u32], periods: &[u32], i: usize) -> Duty
+    requires { (i < length services.now) × (length services.now ≡ length periods.now) }
+    ensures { result ≡ duty_at (duties_of services.now periods.now) i }
+{
+    Duty {
+        service: services[i],
+        period: periods[i],
+    }
+}
+
 // The duties, where they were lent as two lists, of services and of periods, and have passed tests 2 to 5. Contracts see the duties.
 // Two lists, not one of duties (a): the outside calls and the C interface lend them so.
 #[derive(Drop)]
@@ -38,6 +50,14 @@ impl<'a> Model for Duties<'a> {
 }
 
 impl<'a> Duties<'a> {
+    // Two lists of one length, of duties in range, no more than a table has.
+    pub fn new(services: &'a [u32], periods: &'a [u32]) -> Duties<'a>
+        requires { (length services.now ≡ length periods.now) × Listed (duties_of services.now periods.now) }
+        ensures { result ≡ duties_of services.now periods.now }
+    {
+        Duties { services, periods }
+    }
+
     // How many duties there are.
     #[tactic(auto, using(plan_laws::proofs::Planned::length_duties))]
     pub fn len(&self) -> usize
@@ -54,13 +74,10 @@ impl<'a> Duties<'a> {
         ensures value { result ≡ duty_at self.now i }
         ensures ranged { DutyRanged result }
     {
-        // Taken out first, so that what holds of both lists is known where they are indexed.
+        // Taken out first, so that what holds of both lists is known where they are asked.
         let services = self.services;
         let periods = self.periods;
-        Duty {
-            service: services[i],
-            period: periods[i],
-        }
+        duty_at(services, periods, i)
     }
 
     // The greatest block length: the periods' greatest common divisor.
@@ -78,10 +95,7 @@ fn bad_range(services: &[u32], periods: &[u32]) -> usize
     ensures { result ≡ bad_range (duties_of services.now periods.now) }
 {
     lowest(0, services.len(), |i| {
-        !duty_in_range(Duty {
-            service: services[i],
-            period: periods[i],
-        })
+        !duty_in_range(duty_at(services, periods, i))
     })
 }
 
@@ -109,5 +123,5 @@ pub fn take_duties<'a>(
     if bad < duties {
         return Err(range_fault(periods[bad], bad));
     }
-    Ok(Duties { services, periods })
+    Ok(Duties::new(services, periods))
 }

@@ -7,7 +7,7 @@ use Rattle.paper.specs.Outcome.{answer}
 use Rattle.paper.specs.Wanted.{Wanted, wanted, duty_set, taken}
 use Rattle.plan_laws.proofs.Planned.{length_duties, duty_is}
 use Rattle.plan_laws.proofs.TakenWhen.{Counts, counts_good, range_refused, ranges_taken}
-use Rattle.duty_lists.proofs.AfterTests.{none_applies, listed}
+use Rattle.duty_lists.proofs.AfterTests.{none_applies, sliceable, duties_by}
 use Rattle.duty_lists.proofs.take_duties.Goals as goal
 use Rattle.duty_lists.proofs.take_duties.Goals.{Else-not-is_within-2}
 
@@ -30,10 +30,10 @@ returns-then-bad-duties c =
     range_refused x (past (goal.at.returns-then-bad-duties c).Else-not-is_within-2) bad.result bad.ensures (omega (arith, many)) in
     rw (refuses, duty_is x.services x.periods bad.result (search rules)) c.range_fault.ensures
 
-pub invariant_of-result : goal.invariant_of-result
-invariant_of-result c =
-    let x = asked (goal.at.invariant_of-result c).Else-not-is_within-2 in
-    let counts = past (goal.at.invariant_of-result c).Else-not-is_within-2 in
+pub new-requires : goal.new-requires
+new-requires c =
+    let x = asked (goal.at.new-requires c).Else-not-is_within-2 in
+    let counts = past (goal.at.new-requires c).Else-not-is_within-2 in
     let many = length_duties x.services x.periods in
     let told : taken x ≡ answer (duty_set x) = ranges_taken x counts c.bad_range-bad.result c.bad_range-bad.ensures (omega (arith, many)) in
-    (counts.lengths, listed x (none_applies x told))
+    duties_by (sliceable x (none_applies x told))
