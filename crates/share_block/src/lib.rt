@@ -54,11 +54,12 @@ pub struct Shared {
 }
 
 // How the duties go on: whose blocks are shared out, the block that is next, the sum of the needs' whole units before it, and what the
-// lists hold. The lists are lent, so that nothing is copied.
+// lists hold. The lists are lent, so that nothing is copied. The block's number is wider than 32 bits, so that any block of 32 can be
+// shared out, the last one too.
 #[derive(Drop)]
 pub struct Paces<'a> {
     sharing: &'a Sharing<'a>,
-    block: u32,
+    block: u64,
     total: u32,
     lists: &'a mut Lists,
 }
@@ -101,7 +102,7 @@ impl<'a> Paces<'a> {
     }
 
     // The block that is next.
-    pub fn block(&self) -> u32
+    pub fn block(&self) -> u64
         ensures { result ≡ self.now.block }
     {
         self.block
@@ -141,7 +142,7 @@ impl<'a> Paces<'a> {
     // The duties' turns in the next block, by its cut: what each duty gets goes to `units`, and the needs move on. The answer is whether
     // some duty would get -1 units.
     pub fn share_by_cut(&mut self, cut: u32, units: &mut [u32]) -> bool
-        requires block_most { self.old.block < u32.MAX }
+        requires block_most { self.old.block ≤ u32.MAX }
         requires room { duty_count self.old.sharing ≤ length units.old }
         requires cut_value { cut ≡ cut_at self.old.sharing self.old.block }
         ensures next { self.new ≡ pace self.old.sharing (self.old.block + 1) }
@@ -179,7 +180,7 @@ impl<'a> Paces<'a> {
     // reads does not write them.
     #[inline(always)]
     pub fn share_block(&mut self, units: &mut [u32]) -> Shared
-        requires block_most { self.old.block < u32.MAX }
+        requires block_most { self.old.block ≤ u32.MAX }
         requires room { duty_count self.old.sharing ≤ length units.old }
         ensures next { self.new ≡ pace self.old.sharing (self.old.block + 1) }
         ensures short_value { result.short ≡ short_at self.old.sharing self.old.block }

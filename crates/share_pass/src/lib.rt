@@ -25,7 +25,7 @@ pub fn pass_blocks(
     requires blocks { (paces.old.block ≤ to) × (to ≤ length cuts.old) }
     ensures { Passes paces.old to units.old cuts.old result paces.new units.new cuts.new }
 {
-    for b in paces.block()..to {
+    for b in paces.block()..u64::from(to) {
         let shared = paces.share_block(units);
         if shared.short {
             return Err(Refusal::ShareBlock(b as usize));
