@@ -49,7 +49,7 @@ module _ (xs : List Run) (t k : ℕ) (x : Run) (h : k < length xs) (e : x ≡ ru
       sym (held_from_no xs (row i) u k h (rw e at apart))
 
   -- both edges of its row
-  edges_more : (v w : Held) → x.row.0 ≤ most_engines
+  pub edges_more : (v w : Held) → x.row.0 ≤ most_engines
       → v ≡ pick (covers x x.row 0) (Some x.duty) (first_edge (edges_from xs t (k + 1)) x.row.0)
       → w ≡ pick (covers x x.row (t - 1)) (Some x.duty) (last_edge (edges_from xs t (k + 1)) x.row.0)
       → set (edges_from xs t (k + 1)) x.row.0 (record { first = v; last = w }) ≡ edges_from xs t k
