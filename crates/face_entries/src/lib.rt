@@ -127,7 +127,7 @@ pub fn state_in(state: &[u64]) -> State
 }
 
 // A block and its rows put into a lent state. No `Entries`: told so, a state is copied twice more, and a step took 447 ns for 349 (8 runs).
-fn put_state(state: &mut [u64], block: u64, rows: [Row; MOST_ENGINES])
+pub fn put_state(state: &mut [u64], block: u64, rows: [Row; MOST_ENGINES])
     requires { state_room ≤ length state.old }
     ensures { state.new ≡ over (block ∷ row_numbers rows) state.old }
 {
