@@ -1,2 +1,3 @@
 pub mod InWord
+pub mod Numbers
 pub mod Cut

@@ -10,9 +10,10 @@ ghost use Rattle.paper.specs.Words.{row_numbers};
 ghost use Rattle.paper.specs.Outcome.{verdict_as, outcome_of};
 ghost use Rattle.paper.specs.Face.{Tells, entries, reading_entries, reply_entries, state_entries, share_reading_entries, held_entry};
 ghost use Rattle.face_entries.specs.InWord.{InWord};
+ghost use Rattle.face_entries.specs.Numbers.{NumbersInWord, numbers_as};
 ghost use Rattle.face_entries.specs.Cut.{cut_state};
 
-use face_words::{held_entry, narrow, word_of};
+use face_words::{held_entry, narrow, word_of, word_of_numbers};
 use paper::limits::{MOST_ENGINES, READING_ROOM, REPLY_ROOM, SHARE_READING_ROOM, WORD_ROOM};
 use paper::{Dispatched, Held, Reading, Refusal, Reply, Row, ShareReading, State};
 use std::array;
@@ -126,7 +127,7 @@ pub fn state_in(state: &[u64]) -> State
 }
 
 // A block and its rows put into a lent state. No `Entries`: told so, a state is copied twice more, and a step took 447 ns for 349 (8 runs).
-fn put_state(state: &mut [u64], block: u64, rows: [Row; MOST_ENGINES])
+pub fn put_state(state: &mut [u64], block: u64, rows: [Row; MOST_ENGINES])
     requires { state_room ≤ length state.old }
     ensures { state.new ≡ over (block ∷ row_numbers rows) state.old }
 {
@@ -137,16 +138,30 @@ fn put_state(state: &mut [u64], block: u64, rows: [Row; MOST_ENGINES])
     }
 }
 
+// What a dispatcher hands back, by bare numbers: a refusal of any number and place as a word; without one, 0 and the state's entries. The
+// state is lent, so that it is copied no more than where it is handed over whole.
+pub fn hand_over_numbers(refusal: Option<(u32, usize)>, next: &State, state: &mut [u64]) -> u64
+    requires fits { NumbersInWord refusal }
+    requires room { state_room ≤ length state.old }
+    ensures { Tells (entries state_entries (numbers_as refusal next.now)) result state.old state.new }
+{
+    match refusal {
+        Some((number, place)) => word_of_numbers(number, place),
+        None => {
+            put_state(state, next.block, next.rows);
+            0
+        }
+    }
+}
+
 // What a dispatcher hands back as a word, and as the entries of its state where it is done.
 pub fn hand_over(done: Dispatched, state: &mut [u64]) -> u64
     requires { InWord done.verdict × (state_room ≤ length state.old) }
     ensures { Tells (entries state_entries (verdict_as done.verdict done.state)) result state.old state.new }
 {
-    match done.verdict {
-        Err(refusal) => word_of(refusal),
-        Ok(()) => {
-            put_state(state, done.state.block, done.state.rows);
-            0
-        }
-    }
+    let refusal = match done.verdict {
+        Err(why) => Some((why.number(), why.place())),
+        Ok(()) => None,
+    };
+    hand_over_numbers(refusal, &done.state, state)
 }

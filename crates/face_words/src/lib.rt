@@ -3,7 +3,7 @@
 // `as` stands where std has no `From` (32 bits to usize, usize to u64), or where it is proved that nothing is lost (d).
 #![tactic(auto)]
 
-ghost use Rattle.std.specs.Prelude.{◌≡◌, ◌+◌, ◌*◌, ◌≤◌, min};
+ghost use Rattle.std.specs.Prelude.{◌≡◌, ◌+◌, ◌*◌, ◌≤◌, ◌<◌, min};
 ghost use Rattle.paper.specs.Limits.{most_place, no_row};
 ghost use Rattle.paper.specs.Outcome.{number_of, place_of};
 ghost use Rattle.paper.specs.Face.{held_entry};
@@ -11,12 +11,21 @@ ghost use Rattle.paper.specs.Face.{held_entry};
 use paper::limits::{IDLE, NO_ROW};
 use paper::{Held, Refusal};
 
+// A refusal of any number and place as a word: the number in the low eight bits, the place above them.
+pub fn word_of_numbers(number: u32, place: usize) -> u64
+    requires byte { number < 256 }
+    requires fits { place ≤ most_place }
+    ensures { result ≡ number + 256 * place }
+{
+    u64::from(number) + 256 * place as u64
+}
+
 // A refusal as a word.
 pub fn word_of(why: Refusal) -> u64
     requires { place_of why ≤ most_place }
     ensures { result ≡ number_of why + 256 * place_of why }
 {
-    u64::from(why.number()) + 256 * why.place() as u64
+    word_of_numbers(why.number(), why.place())
 }
 
 // The word for a lent list that is too short, with the entries needed.

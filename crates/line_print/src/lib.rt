@@ -38,13 +38,21 @@ pub fn print_line(out: &mut [u8], word: &[u8], numbers: &[u64]) -> usize
     end + 1
 }
 
+// A refusal by any number and place: the two, as they are.
+pub fn print_refused_numbers(out: &mut [u8], number: u32, place: usize) -> usize
+    requires { refused_line_room ≤ length out.old }
+    ensures { Puts (print_line refused_word (number ∷ place ∷ [])) out.old out.new result }
+{
+    let number = u64::from(number);
+    let place = place as u64;
+    let numbers = [number, place];
+    print_line(out, b"refused", &numbers)
+}
+
 // A refusal: number, place.
 pub fn print_refused(out: &mut [u8], why: Refusal) -> usize
     requires { refused_line_room ≤ length out.old }
     ensures { Puts (print_line refused_word (number_of why ∷ place_of why ∷ [])) out.old out.new result }
 {
-    let number = u64::from(why.number());
-    let place = why.place() as u64;
-    let numbers = [number, place];
-    print_line(out, b"refused", &numbers)
+    print_refused_numbers(out, why.number(), why.place())
 }
