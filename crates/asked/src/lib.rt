@@ -11,6 +11,7 @@ use judge::rule_on;
 use load_count::count_in;
 use paper::{Dispatched, Engine, Refusal, Reply, Row, State};
 use reply::reply_at;
+use row_edges::Edges;
 
 // A dispatcher, by its state.
 #[derive(Clone, Copy, Debug, PartialEq, Eq)]
@@ -20,7 +21,8 @@ pub struct Dispatcher(pub State);
 pub fn question(b: &[u8], engine: Engine, tick: u64) -> Result<Reply, Refusal>
     ensures { outcome_of result ≡ question b.now engine tick }
 {
-    let accepted = rule_on(b)?;
+    let mut edges = Edges::new();
+    let accepted = rule_on(b, &mut edges)?;
     reply_at(&accepted, engine, tick)
 }
 
@@ -28,7 +30,8 @@ pub fn question(b: &[u8], engine: Engine, tick: u64) -> Result<Reply, Refusal>
 fn started(b: &[u8], block: u64) -> Result<State, Refusal>
     ensures { outcome_of result ≡ start b.now block }
 {
-    let accepted = rule_on(b)?;
+    let mut edges = Edges::new();
+    let accepted = rule_on(b, &mut edges)?;
     Ok(state_at(&accepted, block))
 }
 
@@ -36,7 +39,8 @@ fn started(b: &[u8], block: u64) -> Result<State, Refusal>
 fn advanced(b: &[u8], here: State) -> Result<State, Refusal>
     ensures { outcome_of result ≡ advanced b.now here }
 {
-    let accepted = rule_on(b)?;
+    let mut edges = Edges::new();
+    let accepted = rule_on(b, &mut edges)?;
     advance(&accepted, here)
 }
 
@@ -59,7 +63,8 @@ impl Dispatcher {
     pub fn row(self, b: &[u8], engine: Engine) -> Result<Row, Refusal>
         ensures { outcome_of result ≡ row_told b.now self.0 engine }
     {
-        let accepted = rule_on(b)?;
+        let mut edges = Edges::new();
+        let accepted = rule_on(b, &mut edges)?;
         tell(&accepted, self.0, engine)
     }
 }
@@ -68,6 +73,7 @@ impl Dispatcher {
 pub fn count(b: &[u8], blocks: u64) -> Result<u64, Refusal>
     ensures { outcome_of result ≡ counted b.now blocks }
 {
-    let accepted = rule_on(b)?;
+    let mut edges = Edges::new();
+    let accepted = rule_on(b, &mut edges)?;
     count_in(&accepted, blocks)
 }

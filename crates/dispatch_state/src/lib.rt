@@ -14,8 +14,8 @@ use rotation::row_in;
 use table_tally::Accepted;
 
 // Whether a state is the one for its block.
-fn is_own(accepted: &Accepted, s: State) -> bool
-    ensures { result ≡ is_state (link accepted.now) accepted.now.engines s }
+fn is_own(accepted: &Accepted, s: &State) -> bool
+    ensures { result ≡ is_state (link accepted.now) accepted.now.engines s.now }
 {
     s.rows == rows_at(accepted, s.block)
 }
@@ -32,7 +32,7 @@ pub fn state_at(accepted: &Accepted, block: u64) -> State
 pub fn advance(accepted: &Accepted, s: State) -> Result<State, Refusal>
     ensures { outcome_of result ≡ next_by (link accepted.now) accepted.now.engines s }
 {
-    if !is_own(accepted, s) {
+    if !is_own(accepted, &s) {
         return Err(Refusal::StrangeState);
     }
     let block = s.block;
@@ -51,7 +51,7 @@ pub fn tell(accepted: &Accepted, s: State, engine: Engine) -> Result<Row, Refusa
     if engines <= engine.0 {
         return Err(Refusal::NoEngine);
     }
-    if !is_own(accepted, s) {
+    if !is_own(accepted, &s) {
         return Err(Refusal::StrangeState);
     }
     Ok(row_in(accepted.edges(), engine, s.block))

@@ -9,8 +9,10 @@ ghost use Rattle.judge_runs.specs.Halves.{passed_as};
 
 use judge_lowest::{bad_slice, is_undivided};
 use judge_runs::{judge_rows, judge_service};
+use paper::limits::MOST_DUTIES;
 use paper::{Fault, Reading};
 use record_read::TableBytes;
+use row_edges::Edges;
 use table_form::form_of;
 use table_tally::{Accepted, tally};
 
@@ -29,24 +31,26 @@ fn judge_duties(table: &TableBytes) -> Result<(), Fault>
     Ok(())
 }
 
-// Judges any bytes: the accepted table with the edges of its rows, for those who ask on, or the lowest fault with its place. The rules of
-// the duties look at no run, and those of the rows need no list.
+// Judges any bytes: the accepted table with the edges of its rows, for those who ask on, or the lowest fault with its place. The edges are
+// gathered where the caller lends room for them. The rules of the duties look at no run, and those of the rows need no list.
 #[tactic(auto, using(judge_runs::proofs::Halves::halves), unfolding(paper::specs::Rules::accepted, paper::specs::Rules::judge_table))]
-pub fn rule_on(b: &[u8]) -> Result<Accepted<'_>, Fault>
+pub fn rule_on<'a>(b: &'a [u8], edges: &'a mut Edges) -> Result<Accepted<'a>, Fault>
     ensures { form_as result ≡ accepted b.now }
 {
     let table = form_of(b)?;
     judge_duties(&table)?;
     judge_rows(&table)?;
-    let gathered = tally(&table);
-    judge_service(&table, &gathered.units)?;
-    Ok(Accepted::new(table, gathered.edges))
+    let mut units = [0; MOST_DUTIES];
+    tally(&table, &mut units, edges);
+    judge_service(&table, &units)?;
+    Ok(Accepted::new(table, edges))
 }
 
 // Judges any bytes: the reading of an accepted table, or the lowest fault with its place.
 pub fn judge(b: &[u8]) -> Result<Reading, Fault>
     ensures { judged_as result ≡ judged b.now }
 {
-    let accepted = rule_on(b)?;
+    let mut edges = Edges::new();
+    let accepted = rule_on(b, &mut edges)?;
     Ok(accepted.table().reading())
 }

@@ -17,6 +17,7 @@ use paper::limits::{MOST_INPUT, MOST_TABLE, TEXT_ROOM};
 use paper::{Input, Refusal};
 use plan_input::read_input;
 use plan_text::print_text;
+use row_edges::Edges;
 use std::io;
 use std::io::{Read, Write};
 
@@ -25,7 +26,8 @@ fn print_plan(out: &mut [u8], table: &[u8]) -> usize
     requires { text_room ≤ length out.old }
     ensures { Puts (printed (accepted table.now)) out.old out.new result }
 {
-    match rule_on(table) {
+    let mut edges = Edges::new();
+    match rule_on(table, &mut edges) {
         Ok(accepted) => print_text(out, &accepted),
         Err(fault) => print_refused(out, Refusal::Table(fault)),
     }

@@ -12,6 +12,7 @@ use judge::rule_on;
 use paper::Refusal;
 use paper::limits::TEXT_ROOM;
 use record_write::put_bytes;
+use row_edges::Edges;
 use table_lines::print_table;
 use table_tally::Accepted;
 
@@ -42,6 +43,7 @@ fn fit_text(out: &mut [u8], accepted: &Accepted) -> Result<usize, Refusal>
 pub fn plan_text(table: &[u8], out: &mut [u8]) -> Result<usize, Refusal>
     ensures { Writes (text_for table.now (length out.old)) result out.old out.new }
 {
-    let accepted = rule_on(table)?;
+    let mut edges = Edges::new();
+    let accepted = rule_on(table, &mut edges)?;
     fit_text(out, &accepted)
 }

@@ -3,10 +3,10 @@
 // `as` stands where std has no `From` (32 bits to usize, usize to u64), or where it is proved that nothing is lost (d).
 #![tactic(auto)]
 
-ghost use Rattle.std.specs.Prelude.{◌≡◌, ◌≤◌, ◌<◌};
+ghost use Rattle.std.specs.Prelude.{◌≡◌, ◌+◌, ◌≤◌, ◌<◌, replicate};
 ghost use Rattle.paper.specs.Duties.{same};
 ghost use Rattle.paper.specs.Limits.{most_engines};
-ghost use Rattle.row_edges.specs.Links.{first_edge, last_edge, link_of};
+ghost use Rattle.row_edges.specs.Links.{idle_edges, first_edge, last_edge, link_of};
 
 use paper::Row;
 use paper::limits::EDGE_ROWS;
@@ -37,6 +37,18 @@ pub fn same_duty(g: Edge, h: Edge) -> bool
 }
 
 impl Edges {
+    // Of rows that hold nothing at their edges.
+    pub fn new() -> Edges
+        ensures { result.rows ≡ replicate (most_engines + 1) idle_edges }
+    {
+        Edges {
+            rows: [RowEdges {
+                first: None,
+                last: None,
+            }; EDGE_ROWS],
+        }
+    }
+
     // What holds the first unit of a row.
     pub fn first(&self, row: Row) -> Edge
         requires { row.0 ≤ most_engines }

@@ -14,17 +14,10 @@ ghost use Rattle.table_tally.specs.Tally.{units_in, edges_of};
 ghost use Rattle.table_tally.specs.Ready.{Ready};
 
 use paper::Run;
-use paper::limits::{EDGE_ROWS, MOST_DUTIES};
+use paper::limits::MOST_DUTIES;
 use record_read::{TableBytes, run_covers};
 use row_edges::{Edge, Edges, RowEdges};
 use std::marker::Model;
-
-// What one pass gathers: the units of each duty, and the edges of each row.
-#[derive(Clone, Copy, Debug, PartialEq, Eq)]
-pub struct Gathered {
-    pub units: [u32; MOST_DUTIES],
-    pub edges: Edges,
-}
 
 // What holds a unit of a run's row: the run's duty where the run has the unit, else what held it before.
 fn edge(x: Run, unit: u32, old: Edge) -> Edge
@@ -39,40 +32,34 @@ fn edge(x: Run, unit: u32, old: Edge) -> Edge
     }
 }
 
-// Tallies a table. The first run that has a unit holds it, so the runs are passed from the last to the first.
-pub fn tally(table: &TableBytes) -> Gathered
-    ensures units { result.units ≡ units_in table.now }
-    ensures edges { result.edges.rows ≡ edges_of table.now }
+// Tallies a table: the units of each duty, and the edges of the rows. The first run that has a unit holds it, so the runs are passed from
+// the last to the first. Both are lent, so that nothing is copied on its way to those who ask on.
+pub fn tally(table: &TableBytes, units: &mut [u32; MOST_DUTIES], edges: &mut Edges)
+    ensures units { units.new ≡ units_in table.now }
+    ensures edges { edges.new.rows ≡ edges_of table.now }
 {
+    *units = [0; MOST_DUTIES];
+    *edges = Edges::new();
     let reading = table.reading();
     let last = reading.block_length - 1;
-    let mut gathered = Gathered {
-        units: [0; MOST_DUTIES],
-        edges: Edges {
-            rows: [RowEdges {
-                first: None,
-                last: None,
-            }; EDGE_ROWS],
-        },
-    };
     for k in (0..table.runs()).rev() {
         let x = table.run(k);
-        gathered.units[x.duty as usize] += x.length;
+        units[x.duty as usize] += x.length;
         let row = x.row.0 as usize;
-        let edges = gathered.edges.rows[row];
-        gathered.edges.rows[row] = RowEdges {
-            first: edge(x, 0, edges.first),
-            last: edge(x, last, edges.last),
+        let old = edges.rows[row];
+        edges.rows[row] = RowEdges {
+            first: edge(x, 0, old.first),
+            last: edge(x, last, old.last),
         };
     }
-    gathered
 }
 
-// A table that meets the rules, with the edges of its rows, ready to be asked. A contract sees the table.
+// A table that meets the rules, with the edges of its rows, ready to be asked. A contract sees the table. The edges stay where they were
+// gathered.
 #[derive(Drop)]
 pub struct Accepted<'a> {
     table: TableBytes<'a>,
-    edges: Edges,
+    edges: &'a Edges,
 }
 
 impl<'a> Model for Accepted<'a> {
@@ -84,13 +71,13 @@ impl<'a> Model for Accepted<'a> {
 
     ghost view = { λ a. a.table };
 
-    ghost invariant = { λ a. Ready a.table a.edges.rows };
+    ghost invariant = { λ a. Ready a.table a.edges.now.rows };
 }
 
 impl<'a> Accepted<'a> {
     // A table that meets the rules, and the edges that its tally gathered.
-    pub fn new(table: TableBytes<'a>, edges: Edges) -> Accepted<'a>
-        requires { Ready table edges.rows }
+    pub fn new(table: TableBytes<'a>, edges: &'a Edges) -> Accepted<'a>
+        requires { Ready table edges.now.rows }
         ensures { result ≡ table.entry }
     {
         Accepted { table, edges }
@@ -111,6 +98,6 @@ impl<'a> Accepted<'a> {
         ensures links { link_of result.now.rows ≡ link self.now }
         ensures ends { first_of (link_of result.now.rows) self.now.engines ≡ self.now.engines }
     {
-        &self.edges
+        self.edges
     }
 }

@@ -13,4 +13,4 @@ new-requires c =
     let all : accepted c.args.b.now ≡ answer t =
     rw (← c.in_ok-table.ensures, ← c.in_ok-judge_duties.ensures, halves t, ← c.in_ok-judge_rows.ensures)
     (sym c.in_ok-judge_service.ensures) in
-    record { ranged = accepted_ranged _ t all; meets = accepted_meets _ t all; edges_are = c.tally-gathered.ensures.edges }
+    record { ranged = accepted_ranged _ t all; meets = accepted_meets _ t all; edges_are = c.tally.ensures.edges }

@@ -11,11 +11,11 @@ use Rattle.table_tally.proofs.tally.Goals as goal
 pub loop-k-init : goal.loop-k-init
 loop-k-init c =
     let runs = c.args.table.now.runs in
-    record { units = units_none runs _ (omega arith); edges = edges_none runs _ _ (omega arith) }
+    record { units = units_none runs _ (omega arith); edges = rw c.new.ensures (edges_none runs _ _ (omega arith)) }
 
 -- a sum of units stays small
-pub overflow_add-gathered : goal.overflow_add-gathered
-overflow_add-gathered c =
+pub overflow_add-units : goal.overflow_add-units
+overflow_add-units c =
     let ranged = c.reading-reading.ensures.ranged in
     let few = units_bound most_ticks c.args.table.now.runs c.loop-k.k c.run-x.result.duty (units_ranged ranged) (omega (arith, ranged)) in
     omega (arith, rw (← c.loop-k.invariant.units) at few, ranged, c.run-x.ensures.ranged)

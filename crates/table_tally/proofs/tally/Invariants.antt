@@ -5,6 +5,6 @@ use Rattle.table_tally.proofs.tally.Given as goal
 
 abbrev pub invariant-loop-k : goal.invariant-loop-k
 invariant-loop-k l = record {
-  units : l.gathered.units ≡ units_from l.table.runs l.k;
-  edges : l.gathered.edges.rows ≡ edges_from l.table.runs l.table.ticks l.k;
+  units : l.units ≡ units_from l.table.runs l.k;
+  edges : l.edges.rows ≡ edges_from l.table.runs l.table.ticks l.k;
 }
