@@ -83,7 +83,7 @@ module _ (t : Table) (G : Ranged small t) where
   unfolding carried_of
   carried_code = sum_ext t.engines _ _ (λ r h. ap one_if (carries_code r)) ∙ sym (carried_is t)
 
--- of edges as codes: the same code, and not idle, at the end of row r and at unit 0 of the next row of r's engine; so at the ends of a chain
+-- of edges as codes: at how many rows the code at the end and that at unit 0 of the next row of the row's engine are the same and not idle
 module _ (codes : List ℕ) where
   pub carried_codes : (m : ℕ)
       → carried_of (codes_go_on codes) m

@@ -1,5 +1,5 @@
--- The links of rows by their edges, what holds the first and the last unit of each. All that a link asks of edges is whether one duty goes on
--- from the last unit of one row at the first of another; edges tell it as rows or as codes.
+-- The links of rows by their edges, what holds the first and the last unit of each. All that a link asks of edges is whether one duty goes
+-- on from the last unit of one row at the first of another; edges tell it as rows or as codes.
 use Rattle.std.specs.Prelude.{ℕ, ◌+◌, ◌*◌, Bool, not, ◌&&◌, None, List, ltb, eqb, get_or}
 use Rattle.paper.specs.Limits.{most_engines}
 use Rattle.paper.specs.Duties.{Held, same}

@@ -18,7 +18,7 @@ use Rattle.paper.specs.Statements.{Ranged}
 use Rattle.paper.proofs.Holding.{held_none, same_idle}
 use Rattle.paper.proofs.Links.{link_is, closed, rows_end}
 use Rattle.row_edges.specs.declared.RowEdges.{RowEdges}
-use Rattle.row_edges.specs.Links.{idle_edges, first_edge, last_edge, rows_go_on, link_of}
+use Rattle.row_edges.specs.Links.{idle_edges, first_edge, last_edge, link_of}
 use Rattle.row_edges.proofs.Linking.{link_past, link_at}
 use Rattle.table_tally.specs.Ready.{Ready}
 use Rattle.table_tally.specs.Tally.{edges_at, edges_of}
@@ -50,8 +50,8 @@ module _ (t : Table) (ranged : Ranged small t) where
       fun_ext
       (λ r. let ending = held_in t.runs (row r) (t.ticks - 1) in
       lt_or_le r most_engines
-      (λ h. sym (link_at (rows_go_on (edges_of t)) h) ∙ rw (last_tells r, first_tells (r + 1)) (sym (link_is t r)))
-      (λ h. link_past (rows_go_on (edges_of t)) h ∙ sym (link_is t r ∙ ap (same ending) (idle_past (r + 1) 0 (omega arith)) ∙ same_idle ending)))
+      (λ h. sym (link_at _ h) ∙ rw (last_tells r, first_tells (r + 1)) (sym (link_is t r)))
+      (λ h. link_past _ h ∙ sym (link_is t r ∙ ap (same ending) (idle_past (r + 1) 0 (omega arith)) ∙ same_idle ending)))
 
 -- of a judged table: its links, and that its last row's chain ends with it
 module _ {t : Table} {edges : List RowEdges} (R : Ready t edges) where
