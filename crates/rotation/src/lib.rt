@@ -1,5 +1,5 @@
 // The rotation: the chains of rows, and which row an engine runs in a block. It needs no more of a table than what holds the
-// first and the last unit of each row, as the tally tells it.
+// first and the last unit of each row, as the tally tells it; and a chain is found by whatever tells of edges.
 // `as` stands where std has no `From` (32 bits to usize, usize to u64), or where it is proved that nothing is lost (d).
 #![tactic(auto)]
 
@@ -7,21 +7,21 @@ ghost use Rattle.std.specs.Prelude.{◌≡◌, ◌+◌, ◌%◌, ◌≤◌, ◌<
 ghost use Rattle.paper.specs.Limits.{most_engines};
 ghost use Rattle.paper.specs.Rotation.{first_of, row_at};
 ghost use Rattle.walk_laws.proofs.Page.{InChain};
-ghost use Rattle.row_edges.specs.Links.{link_of};
+ghost use Rattle.row_edges.specs.Links.{link_by, link_of};
 ghost use Rattle.rotation.specs.Turning.{IsLast, IsTurned, round};
 
 use paper::limits::MOST_ROWS;
 use paper::{Chain, Engine, Row};
-use row_edges::Edges;
+use row_edges::{Edges, HeldEdges};
 
 // The first row of a row's chain: down along the links.
-fn chain_first(edges: &Edges, row: Row) -> Row
+fn chain_first<E: HeldEdges>(edges: &E, row: Row) -> Row
     requires { row.0 ≤ most_engines }
-    ensures { (result.0 ≡ first_of (link_of edges.now.rows) row.0) × (result.0 ≤ row.0) }
+    ensures { (result.0 ≡ first_of (link_by (E.goes_on edges.now)) row.0) × (result.0 ≤ row.0) }
 {
     // (c) Tried as `(0..row.0).rev().find(..)`: no proof, since the library has no lemma of what a range yields from its end down.
     for r in (0..row.0).rev() {
-        if !edges.linked(Row(r)) {
+        if !edges.goes_on(Row(r), Row(r + 1)) {
             return Row(r + 1);
         }
     }
@@ -29,18 +29,18 @@ fn chain_first(edges: &Edges, row: Row) -> Row
 }
 
 // The last row of a row's chain: up along the links. Nothing is chained to the row past the last that there may be.
-fn chain_last(edges: &Edges, row: Row) -> Row
+fn chain_last<E: HeldEdges>(edges: &E, row: Row) -> Row
     requires { row.0 ≤ most_engines }
-    ensures { IsLast (link_of edges.now.rows) row.0 result.0 }
+    ensures { IsLast (link_by (E.goes_on edges.now)) row.0 result.0 }
 {
-    let last = (row.0..MOST_ROWS).find(|r| !edges.linked(Row(*r)));
+    let last = (row.0..MOST_ROWS).find(|r| !edges.goes_on(Row(*r), Row(*r + 1)));
     Row(last.unwrap_or(MOST_ROWS))
 }
 
 // The chain of a row.
-pub fn chain_of(edges: &Edges, row: Row) -> Chain
+pub fn chain_of<E: HeldEdges>(edges: &E, row: Row) -> Chain
     requires { row.0 ≤ most_engines }
-    ensures { InChain (link_of edges.now.rows) row.0 result × (result.first.0 + result.length ≤ most_engines + 1) }
+    ensures { InChain (link_by (E.goes_on edges.now)) row.0 result × (result.first.0 + result.length ≤ most_engines + 1) }
 {
     let first = chain_first(edges, row);
     let last = chain_last(edges, row);

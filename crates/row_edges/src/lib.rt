@@ -1,12 +1,12 @@
 // The edges of rows, and their links: which row is chained to the one before it, by what holds the first and the last unit of each row, as
-// the tally tells it.
+// the tally tells it, or as codes of 32 bits that anyone may have.
 // `as` stands where std has no `From` (32 bits to usize, usize to u64), or where it is proved that nothing is lost (d).
 #![tactic(auto)]
 
-ghost use Rattle.std.specs.Prelude.{◌≡◌, ◌+◌, ◌≤◌, ◌<◌, replicate};
+ghost use Rattle.std.specs.Prelude.{ℕ, ◌≡◌, ◌+◌, ◌≤◌, ◌<◌, Bool, replicate};
 ghost use Rattle.paper.specs.Duties.{same};
 ghost use Rattle.paper.specs.Limits.{most_engines};
-ghost use Rattle.row_edges.specs.Links.{idle_edges, first_edge, last_edge, link_of};
+ghost use Rattle.row_edges.specs.Links.{idle_edges, first_edge, last_edge, link_of, rows_go_on, same_code, codes_go_on};
 
 use paper::Row;
 use paper::limits::EDGE_ROWS;
@@ -26,6 +26,18 @@ pub struct RowEdges {
 #[derive(Clone, Copy, Debug, PartialEq, Eq)]
 pub struct Edges {
     pub rows: [RowEdges; EDGE_ROWS],
+}
+
+// Two codes for each of these rows: what holds its first unit and what holds its last, each 0 for idle, else the duty's number and 1.
+pub const EDGES: usize = 2 * EDGE_ROWS;
+
+// Whatever tells of two rows whether one duty holds the last unit of the one and the first unit of the other.
+pub trait HeldEdges {
+    ghost goes_on: { Self → ℕ → ℕ → Bool };
+
+    fn goes_on(&self, last: Row, first: Row) -> bool
+        requires { (last.0 ≤ most_engines) × (first.0 ≤ most_engines) }
+        ensures { result ≡ goes_on self.now last.0 first.0 };
 }
 
 // Whether one duty holds both, of two edges.
@@ -66,11 +78,35 @@ impl Edges {
     }
 
     // Whether the row after this one is chained to it.
-    #[tactic(auto, unfolding(crate::specs::Links::link_of))]
+    #[tactic(auto, unfolding(crate::specs::Links::link_by))]
     pub fn linked(&self, row: Row) -> bool
         requires { row.0 < most_engines }
         ensures { result ≡ link_of self.now.rows row.0 }
     {
         same_duty(self.last(row), self.first(Row(row.0 + 1)))
+    }
+}
+
+impl HeldEdges for Edges {
+    ghost goes_on = { λ edges. rows_go_on edges.rows };
+
+    fn goes_on(&self, last: Row, first: Row) -> bool {
+        same_duty(self.last(last), self.first(first))
+    }
+}
+
+// Whether one duty holds both, of two codes.
+fn same_code(g: u32, h: u32) -> bool
+    ensures { result ≡ same_code g h }
+{
+    g != 0 && g == h
+}
+
+// Codes with any entries, also such as no duty has.
+impl HeldEdges for [u32; EDGES] {
+    ghost goes_on = { codes_go_on };
+
+    fn goes_on(&self, last: Row, first: Row) -> bool {
+        same_code(self[2 * last.0 as usize + 1], self[2 * first.0 as usize])
     }
 }

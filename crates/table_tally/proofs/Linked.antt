@@ -50,8 +50,8 @@ module _ (t : Table) (ranged : Ranged small t) where
       fun_ext
       (λ r. let ending = held_in t.runs (row r) (t.ticks - 1) in
       lt_or_le r most_engines
-      (λ h. sym (link_at (edges_of t) h) ∙ rw (last_tells r, first_tells (r + 1)) (sym (link_is t r)))
-      (λ h. link_past (edges_of t) h ∙ sym (link_is t r ∙ ap (same ending) (idle_past (r + 1) 0 (omega arith)) ∙ same_idle ending)))
+      (λ h. sym (link_at _ h) ∙ rw (last_tells r, first_tells (r + 1)) (sym (link_is t r)))
+      (λ h. link_past _ h ∙ sym (link_is t r ∙ ap (same ending) (idle_past (r + 1) 0 (omega arith)) ∙ same_idle ending)))
 
 -- of a judged table: its links, and that its last row's chain ends with it
 module _ {t : Table} {edges : List RowEdges} (R : Ready t edges) where

@@ -8,10 +8,10 @@ use Rattle.carried_over.proofs.Carrying.{carried_none, carried_onward}
 use Rattle.carried_over.proofs.carried.Goals as goal
 
 pub loop-first-init : goal.loop-first-init
-loop-first-init c = (omega arith, first_zero _, sym (carried_none _), omega arith)
+loop-first-init g c = (omega arith, first_zero _, sym (carried_none _), omega arith)
 
 pub loop-first-preserved : goal.loop-first-preserved
-loop-first-preserved c =
+loop-first-preserved g c =
     let loop = c.loop-first in
     let chain = c.chain_of-chain.ensures in
     let next = onward _ c.args.engines c.requires.1 loop.invariant.1 chain.0 (search rules) in
@@ -23,7 +23,7 @@ loop-first-preserved c =
     )
 
 pub returns : goal.returns
-returns c =
+returns g c =
     let loop = c.loop-first in
     let all : loop.first ≡ c.args.engines = omega arith in
     (loop.invariant.2 ∙ ap (carried_of _) all, omega arith)

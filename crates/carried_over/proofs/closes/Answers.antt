@@ -1,6 +1,5 @@
--- `closes`: the two edges, compared.
-use mathlib.Core.Path.{◌∙◌}
+-- `closes`: the two rows are the definition's.
 use Rattle.carried_over.proofs.closes.Goals as goal
 
 pub returns : goal.returns
-returns c = c.same_duty.ensures ∙ rw (c.last.ensures, c.first.ensures)
+returns g c = c.goes_on.ensures

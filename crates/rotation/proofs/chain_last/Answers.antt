@@ -12,8 +12,8 @@ use Rattle.std.proofs.lemmas.Iterator.{first_from_Range}
 use Rattle.paper.specs.Limits.{most_engines}
 use Rattle.paper.specs.Rotation.{first_of}
 use Rattle.walk_laws.proofs.Page.{first_along}
-use Rattle.row_edges.specs.Links.{link_of}
-use Rattle.row_edges.proofs.Linking.{link_past}
+use Rattle.row_edges.specs.Links.{link_by}
+use Rattle.row_edges.proofs.Linking.{link_past, link_at}
 use Rattle.rotation.specs.Turning.{IsLast}
 use Rattle.rotation.proofs.chain_last.Goals as goal
 
@@ -24,16 +24,29 @@ chained c r k a h =
     sym (ap (first_of c) e) ∙ first_along c r (k - r) (λ j b d. h j b (omega arith))
 
 -- the row found is the last of the chain, and where none is found the last that there may be
-last : (c : ℕ → Bool) (r : ℕ) (o : Option ℕ) → r ≤ most_engines → c most_engines ≡ false
-    → MatchOption o ((k : ℕ) → r ≤ k → k < most_engines → c k ≡ true)
-    (λ i. (r ≤ i) × (i < most_engines) × (c i ≡ false) × ((k : ℕ) → r ≤ k → k < i → c k ≡ true))
-    → IsLast c r (unwrap_or o most_engines)
-last c r None l e h = record { after = l; most = omega arith; chained = chained c r most_engines l h; ends = e }
-last c r (Some i) l e h = record { after = h.0; most = omega (arith, h.1); chained = chained c r i h.0 h.3; ends = h.2 }
+module _ (goes_on : ℕ → ℕ → Bool) (r : ℕ) where
+  last : (o : Option ℕ) → r ≤ most_engines
+      → MatchOption o ((k : ℕ) → r ≤ k → k < most_engines → goes_on k (k + 1) ≡ true)
+      (λ i. (r ≤ i) × (i < most_engines) × (goes_on i (i + 1) ≡ false) × ((k : ℕ) → r ≤ k → k < i → goes_on k (k + 1) ≡ true))
+      → IsLast (link_by goes_on) r (unwrap_or o most_engines)
+  last None l h =
+      record {
+        after = l;
+        most = omega arith;
+        chained = chained (link_by goes_on) r most_engines l (λ k b d. sym (link_at goes_on d) ∙ h k b d);
+        ends = link_past goes_on (omega arith);
+      }
+  last (Some i) l h =
+      record {
+        after = h.0;
+        most = omega (arith, h.1);
+        chained = chained (link_by goes_on) r i h.0 (λ k b d. sym (link_at goes_on (omega (arith, h.1))) ∙ h.3 k b d);
+        ends = sym (link_at goes_on h.1) ∙ h.2;
+      }
 
 pub returns : goal.returns
-returns c =
-    let link = link_of c.args.edges.now.rows in
-    let found = first_from_Range _ _ _ _ (λ k. link k ≡ false) (λ k. link k ≡ true) c.find-last.ensures.ran
+returns g c =
+    let goes_on = g.E.HeldEdges.goes_on c.args.edges.now in
+    let found = first_from_Range _ _ _ _ (λ k. goes_on k (k + 1) ≡ false) (λ k. goes_on k (k + 1) ≡ true) c.find-last.ensures.ran
     (λ x q k. search (rules, tests)) (λ x q k. (search rules, search (rules, tests))) in
-    rw c.unwrap_or.ensures (last link c.args.row.0 c.find-last.result (search rules) (link_past _ (omega arith)) found)
+    rw c.unwrap_or.ensures (last goes_on c.args.row.0 c.find-last.result (search rules) found)
