@@ -26,15 +26,6 @@ pub fn question(b: &[u8], engine: Engine, tick: u64) -> Result<Reply, Refusal>
     reply_at(&accepted, engine, tick)
 }
 
-// The state of a block.
-fn started(b: &[u8], block: u64) -> Result<State, Refusal>
-    ensures { outcome_of result ≡ start b.now block }
-{
-    let mut edges = Edges::new();
-    let accepted = rule_on(b, &mut edges)?;
-    Ok(state_at(&accepted, block))
-}
-
 // The state of the block after a state's.
 fn advanced(b: &[u8], here: State) -> Result<State, Refusal>
     ensures { outcome_of result ≡ advanced b.now here }
@@ -45,11 +36,15 @@ fn advanced(b: &[u8], here: State) -> Result<State, Refusal>
 }
 
 impl Dispatcher {
-    // The state of any named block.
+    // The state of any named block. No `?` (b): so told, a state is copied once more, which small tables showed.
     pub fn start(b: &[u8], block: u64) -> Dispatched
         ensures { Hands (start b.now block) result }
     {
-        handed(started(b, block))
+        let mut edges = Edges::new();
+        match rule_on(b, &mut edges) {
+            Ok(accepted) => handed(Ok(state_at(&accepted, block))),
+            Err(fault) => handed(Err(Refusal::Table(fault))),
+        }
     }
 
     // The state of the next block.
