@@ -1,4 +1,4 @@
--- What is true of duties that were taken.
+-- What is true of duties that were taken, and of the duties of a value.
 use Rattle.std.specs.Prelude.{ℕ, ◌≤◌, ◌<◌, List, length}
 use Rattle.paper.specs.declared.Duty.{Duty}
 use Rattle.paper.specs.Duties.{duty_at}

@@ -28,7 +28,8 @@ pub fn duty_at(services: &[u32], periods: &[u32], i: usize) -> Duty
     }
 }
 
-// The duties, where they were lent as two lists, of services and of periods, and have passed tests 2 to 5. Contracts see the duties.
+// Duties lent as two lists of one length, of services and of periods: each in range, and no more than a table has. Contracts see the
+// duties.
 // Two lists, not one of duties (a): the outside calls and the C interface lend them so.
 #[derive(Drop)]
 pub struct Duties<'a> {

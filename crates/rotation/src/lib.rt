@@ -1,5 +1,5 @@
 // The rotation: the chains of rows, and which row an engine runs in a block. It needs no more of a table than what holds the
-// first and the last unit of each row, as the tally tells it; and a chain is found by whatever tells of edges.
+// first and the last unit of each row, as the tally tells it; and whatever tells of edges will do.
 // `as` stands where std has no `From` (32 bits to usize, usize to u64), or where it is proved that nothing is lost (d).
 #![tactic(auto)]
 
@@ -7,12 +7,12 @@ ghost use Rattle.std.specs.Prelude.{◌≡◌, ◌+◌, ◌%◌, ◌≤◌, ◌<
 ghost use Rattle.paper.specs.Limits.{most_engines};
 ghost use Rattle.paper.specs.Rotation.{first_of, row_at};
 ghost use Rattle.walk_laws.proofs.Page.{InChain};
-ghost use Rattle.row_edges.specs.Links.{link_by, link_of};
+ghost use Rattle.row_edges.specs.Links.{link_by};
 ghost use Rattle.rotation.specs.Turning.{IsLast, IsTurned, round};
 
 use paper::limits::MOST_ROWS;
 use paper::{Chain, Engine, Row};
-use row_edges::{Edges, HeldEdges};
+use row_edges::HeldEdges;
 
 // The first row of a row's chain: down along the links.
 fn chain_first<E: HeldEdges>(edges: &E, row: Row) -> Row
@@ -56,9 +56,9 @@ pub struct Turned {
 }
 
 // The chain of a row, in a block.
-pub fn turned_at(edges: &Edges, row: Row, block: u64) -> Turned
+pub fn turned_at<E: HeldEdges>(edges: &E, row: Row, block: u64) -> Turned
     requires { row.0 ≤ most_engines }
-    ensures { IsTurned (link_of edges.now.rows) block row.0 result }
+    ensures { IsTurned (link_by (E.goes_on edges.now)) block row.0 result }
 {
     let chain = chain_of(edges, row);
     let places = (block % u64::from(chain.length)) as u32;
@@ -82,9 +82,9 @@ pub fn row_of(turned: Turned, engine: Engine) -> Row
 }
 
 // The row that an engine runs in a block.
-pub fn row_in(edges: &Edges, engine: Engine, block: u64) -> Row
+pub fn row_in<E: HeldEdges>(edges: &E, engine: Engine, block: u64) -> Row
     requires { engine.0 ≤ most_engines }
-    ensures { result ≡ row_at (link_of edges.now.rows) block engine }
+    ensures { result ≡ row_at (link_by (E.goes_on edges.now)) block engine }
 {
     row_of(turned_at(edges, Row(engine.0), block), engine)
 }

@@ -96,7 +96,7 @@ impl HeldEdges for Edges {
 }
 
 // Whether one duty holds both, of two codes.
-fn same_code(g: u32, h: u32) -> bool
+pub fn same_code(g: u32, h: u32) -> bool
     ensures { result ≡ same_code g h }
 {
     g != 0 && g == h

@@ -16,7 +16,7 @@ use sa1_runs::{Layout, Place, Slice};
 use slices::share_of;
 use std::marker::Model;
 
-// What SA1 lays: the duties that were taken, in blocks of so many units, on so many engines.
+// What SA1 lays: duties in blocks of so many units, on so many engines.
 #[derive(Drop)]
 pub struct Laying<'a> {
     ticks: u32,
@@ -35,7 +35,7 @@ impl<'a> Model for Laying<'a> {
 }
 
 impl<'a> Laying<'a> {
-    // Taken duties, in blocks of any length in range.
+    // Duties, in blocks of any length in range.
     pub fn new(ticks: u32, engines: u32, duties: Duties<'a>) -> Laying<'a>
         requires { (1 ≤ ticks) × (ticks ≤ most_ticks) }
         ensures { result ≡ laying ticks engines duties.entry }

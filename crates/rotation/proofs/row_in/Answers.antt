@@ -4,4 +4,4 @@ use Rattle.rotation.proofs.Turns.{row_turned}
 use Rattle.rotation.proofs.row_in.Goals as goal
 
 pub returns : goal.returns
-returns c = c.row_of.ensures ∙ row_turned c.turned_at.ensures
+returns g c = c.row_of.ensures ∙ row_turned c.turned_at.ensures
