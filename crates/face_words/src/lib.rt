@@ -37,7 +37,7 @@ pub fn too_short(needed: usize) -> u64
 }
 
 // An entry of a lent state as a row number; one that is too large becomes a number that no row has. No Option (a): the
-// judge is to refuse such a state, and looks at all its rows.
+// dispatcher is to refuse such a state, and looks at all its rows.
 pub fn narrow(x: u64) -> u32
     ensures { result ≡ min x no_row }
 {

@@ -11,8 +11,7 @@ ghost use Rattle.row_edges.specs.Links.{idle_edges, first_edge, last_edge, link_
 use paper::Row;
 use paper::limits::EDGE_ROWS;
 
-// What holds an edge: nothing, or a duty by its number, which is one byte as in its record. So all edges are small enough to be handed
-// back.
+// What holds an edge: nothing, or a duty by its number, which is one byte as in its record. So the edges of all rows are small.
 pub type Edge = Option<u8>;
 
 // What holds the first and the last unit of a row.
